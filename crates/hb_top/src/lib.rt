@@ -1,0 +1,2 @@
+//! The calls of the program `hbnf`, from words and bytes to lines and a status.
+#![tactic(auto)]

@@ -1,0 +1,5 @@
+pub mod Lists
+pub mod Order
+pub mod KeptTypes
+pub mod LooseLemmas
+pub mod TotalOrder

@@ -1,0 +1,6 @@
+//! Types, terms, signatures and definitions of higher order logic (HOL Light), and, in `specs/`, what every claim of this
+//! repository rests on: well-typedness, the rules, derivability, the base definitions, canonical text and sound outputs.
+#![tactic(auto)]
+
+pub mod terms;
+pub mod types;

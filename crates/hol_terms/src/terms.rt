@@ -1,0 +1,278 @@
+ghost use Rattle.std.specs.Prelude.{◌≡◌, IfOk, string_bytes, length, [], ◌∷◌, codes};
+ghost use Rattle.hol_terms.specs.Tm.{tm_index, tm_free, tm_const, tm_comb, tm_abs};
+ghost use Rattle.hol_terms.specs.Typing.{tm_type, range_ty, fun_ty};
+ghost use Rattle.hol_terms.specs.TmBody.{tm_of_body, HoldsType};
+ghost use Rattle.hol_terms.specs.TmNode.{IsTmNode};
+ghost use Rattle.hol_terms.specs.Binding.{var_cmp, tm_bind};
+ghost use Rattle.hol_terms.specs.Definition.{eq_ty};
+ghost use Rattle.hol_terms.specs.TyVars.{ty_vars, const_at, own_const};
+ghost use Rattle.hol_terms.specs.Sequent.{eq_tm};
+ghost use Rattle.hol_terms.specs.Loose.{HasAt, IsClosedAt};
+
+use crate::types::{HolType, copy_all};
+use std::alloc::{AllocError, Global};
+use std::cmp::Ordering;
+use std::marker::Model;
+use std::rc::Rc;
+
+/// A free variable.
+#[derive(Drop)]
+pub struct Var {
+    name: String,
+    ty: HolType,
+}
+
+impl Model for Var {
+    ghost use Rattle.std.specs.Prelude.{string_bytes};
+    ghost use Rattle.hol_terms.specs.Tm.{FreeVar, var_code};
+
+    ghost Value = { FreeVar };
+
+    ghost coded = { var_code };
+
+    ghost view = { λ a. record { name = string_bytes a.name; ty = a.ty } };
+}
+
+impl Var {
+    pub fn new(alloc: Global, name: &str, ty: &HolType) -> Result<Var, AllocError>
+        ensures { IfOk result (λ v. v ≡ record { name = name.now; ty = ty.now }) }
+    {
+        let name = String::from_str(alloc, name)?;
+        let ty = ty.copy()?;
+        Ok(Var { name, ty })
+    }
+
+    pub fn name(&self) -> &str
+        ensures { result.now ≡ self.now.name }
+    {
+        self.name.as_str()
+    }
+
+    pub fn ty(&self) -> &HolType
+        ensures { result.now ≡ self.now.ty }
+    {
+        &self.ty
+    }
+
+    pub fn copy(&self, alloc: Global) -> Result<Var, AllocError>
+        ensures { IfOk result (λ v. v ≡ self.now) }
+    {
+        Var::new(alloc, self.name.as_str(), &self.ty)
+    }
+
+    pub fn cmp(&self, o: &Var) -> Ordering
+        ensures { result ≡ var_cmp self.now o.now }
+    {
+        match self.name().cmp(&o.name()) {
+            Ordering::Equal => self.ty().cmp(o.ty()),
+            decided => decided,
+        }
+    }
+}
+
+/// A term, shared.
+#[cycle(term)]
+#[derive(Drop)]
+pub struct Term {
+    node: Rc<TermBody>,
+}
+
+#[cycle(term)]
+#[derive(Drop)]
+enum TermBody {
+    Index(usize, HolType),
+    Free(Var),
+    Const(String, Vec<HolType>, HolType),
+    Comb(Term, Term, HolType),
+    Abs(HolType, Term, HolType),
+}
+
+impl Model for Term {
+    ghost use Rattle.hol_terms.specs.Tm.{Tm, tm_code, tm_size};
+
+    ghost Value = { Tm };
+
+    ghost coded = { tm_code };
+
+    ghost use Rattle.hol_terms.specs.TmBody.{tm_of_body, HoldsType};
+
+    ghost view = { λ a. tm_of_body a.node.value };
+
+    ghost invariant = { λ a. HoldsType a.node.value };
+
+    ghost size = { tm_size };
+
+    ghost use Rattle.std.proofs.Common.{arith};
+    ghost use Rattle.hol_terms.specs.TmFalls.{term_falls};
+
+    ghost size_decreases = { λ a h. omega (arith, term_falls a.node.value) };
+}
+
+/// The topmost node of a term.
+#[derive(Clone, Copy)]
+pub enum TermNode<'a> {
+    Index(usize),
+    Free(&'a Var),
+    Const(&'a str, &'a [HolType]),
+    Comb(&'a Term, &'a Term),
+    Abs(&'a HolType, &'a Term),
+}
+
+impl Term {
+    fn close(alloc: Global, body: TermBody) -> Result<Term, AllocError>
+        requires { HoldsType body }
+        ensures { IfOk result (λ t. t ≡ tm_of_body body) }
+    {
+        match Rc::new(alloc, body) {
+            Ok(node) => Ok(Term { node }),
+            Err(_) => Err(AllocError),
+        }
+    }
+
+    pub fn view(&self) -> TermNode<'_>
+        ensures { IsTmNode self.now result }
+    {
+        match &*self.node {
+            TermBody::Index(i, _) => TermNode::Index(*i),
+            TermBody::Free(v) => TermNode::Free(v),
+            TermBody::Const(name, args, _) => TermNode::Const(name.as_str(), args.as_slice()),
+            TermBody::Comb(f, x, _) => TermNode::Comb(f, x),
+            TermBody::Abs(a, b, _) => TermNode::Abs(a, b),
+        }
+    }
+
+    pub fn type_of(&self) -> &HolType
+        ensures { result.now ≡ tm_type self.now }
+    {
+        match &*self.node {
+            TermBody::Index(_, ty) => ty,
+            TermBody::Free(v) => v.ty(),
+            TermBody::Const(_, _, ty) => ty,
+            TermBody::Comb(_, _, ty) => ty,
+            TermBody::Abs(_, _, ty) => ty,
+        }
+    }
+
+    pub fn copy(&self) -> Result<Term, AllocError>
+        ensures { IfOk result (λ t. t ≡ self.now) }
+    {
+        let node = self.node.clone()?;
+        Ok(Term { node })
+    }
+
+    pub fn mk_var(alloc: Global, v: &Var) -> Result<Term, AllocError>
+        ensures { IfOk result (λ t. t ≡ tm_free v.now) }
+    {
+        let v = v.copy(alloc)?;
+        Term::close(alloc, TermBody::Free(v))
+    }
+
+    pub fn mk_comb(alloc: Global, f: &Term, x: &Term) -> Result<Term, AllocError>
+        requires { tm_type f.now ≡ fun_ty (tm_type x.now) (range_ty (tm_type f.now)) }
+        ensures { IfOk result (λ t. t ≡ tm_comb f.now x.now) }
+    {
+        let ty = f.type_of().range().copy()?;
+        let f = f.copy()?;
+        let x = x.copy()?;
+        Term::close(alloc, TermBody::Comb(f, x, ty))
+    }
+
+    fn mk_lambda(alloc: Global, a: &HolType, b: Term) -> Result<Term, AllocError>
+        requires { HasAt 0 a.now b }
+        ensures { IfOk result (λ t. t ≡ tm_abs a.now b) }
+    {
+        let ty = HolType::fun(alloc, a, b.type_of())?;
+        let a = a.copy()?;
+        Term::close(alloc, TermBody::Abs(a, b, ty))
+    }
+
+    /// The equation of two terms of one type.
+    pub fn mk_eq(alloc: Global, s: &Term, t: &Term) -> Result<Term, AllocError>
+        requires { tm_type s.now ≡ tm_type t.now }
+        ensures { IfOk result (λ e. e ≡ eq_tm s.now t.now) }
+    {
+        let equals = Term::mk_equals(alloc, s.type_of())?;
+        let half = Term::mk_comb(alloc, &equals, s)?;
+        Term::mk_comb(alloc, &half, t)
+    }
+
+    /// Equality at a type.
+    pub fn mk_equals(alloc: Global, a: &HolType) -> Result<Term, AllocError>
+        ensures { IfOk result (λ e. e ≡ tm_const (codes "eq") (a.now ∷ []) (eq_ty a.now)) }
+    {
+        let truth = HolType::app(alloc, "bool", &[])?;
+        let to_truth = HolType::fun(alloc, a, &truth)?;
+        let ty = HolType::fun(alloc, a, &to_truth)?;
+        let name = String::from_str(alloc, "eq")?;
+        let mut args = Vec::new(alloc);
+        args.push(a.copy()?)?;
+        Term::close(alloc, TermBody::Const(name, args, ty))
+    }
+
+    /// The constant whose generic type is `generic`, with `args` in place of its type variables, by first occurrence.
+    pub fn mk_const_at(
+        alloc: Global,
+        name: &str,
+        generic: &HolType,
+        args: &[HolType],
+    ) -> Result<Term, AllocError>
+        requires { length args.now ≡ length (ty_vars generic.now []) }
+        ensures { IfOk result (λ t. t ≡ const_at name.now generic.now args.now) }
+    {
+        let ty = generic.instance(alloc, args)?;
+        let name = String::from_str(alloc, name)?;
+        let args = copy_all(alloc, args)?;
+        Term::close(alloc, TermBody::Const(name, args, ty))
+    }
+
+    /// The constant whose generic type is `ty`, at the type variables of `ty`.
+    pub fn mk_own_const(alloc: Global, name: &str, ty: &HolType) -> Result<Term, AllocError>
+        ensures { IfOk result (λ c. c ≡ own_const name.now ty.now) }
+    {
+        let name = String::from_str(alloc, name)?;
+        let args = ty.vars(alloc)?;
+        let ty = ty.copy()?;
+        Term::close(alloc, TermBody::Const(name, args, ty))
+    }
+
+    /// The term with the variable `v` bound by the binder that `depth` binders lie before.
+    #[tactic(auto, using(crate::proofs::LooseLemmas::bind_lemmas))]
+    fn bind(&self, alloc: Global, v: &Var, depth: usize) -> Result<Term, AllocError>
+        ensures { IfOk result (λ t. t ≡ tm_bind depth v.now self.now) }
+    {
+        match self.view() {
+            TermNode::Index(_) => self.copy(),
+            TermNode::Free(w) => {
+                if matches!(v.cmp(w), Ordering::Equal) {
+                    let ty = w.ty().copy()?;
+                    Term::close(alloc, TermBody::Index(depth, ty))
+                } else {
+                    self.copy()
+                }
+            }
+            TermNode::Const(_, _) => self.copy(),
+            TermNode::Comb(f, x) => {
+                let ty = self.type_of().copy()?;
+                let f = f.bind(alloc, v, depth)?;
+                let x = x.bind(alloc, v, depth)?;
+                Term::close(alloc, TermBody::Comb(f, x, ty))
+            }
+            TermNode::Abs(a, b) => {
+                let Some(deeper) = depth.checked_add(1) else {
+                    return Err(AllocError);
+                };
+                Term::mk_lambda(alloc, a, b.bind(alloc, v, deeper)?)
+            }
+        }
+    }
+
+    /// The abstraction that binds the free variable `v` in `body`.
+    #[tactic(auto, using(crate::proofs::LooseLemmas::bind_lemmas))]
+    pub fn mk_abs(alloc: Global, v: &Var, body: &Term) -> Result<Term, AllocError>
+        requires { IsClosedAt 0 body.now }
+        ensures { IfOk result (λ t. t ≡ tm_abs v.now.ty (tm_bind 0 v.now body.now)) }
+    {
+        let b = body.bind(alloc, v, 0)?;
+        Term::mk_lambda(alloc, v.ty(), b)
+    }
+}
