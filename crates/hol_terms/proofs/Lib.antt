@@ -3,3 +3,5 @@ pub mod Order
 pub mod KeptTypes
 pub mod LooseLemmas
 pub mod TotalOrder
+pub mod NameLemmas
+pub mod Tables

@@ -1,5 +1,5 @@
 -- Names. A name is kept as its bytes in UTF-8.
-use Rattle.std.specs.Prelude.{ℕ, Bool, true, false, not, ◌&&◌, ◌||◌, ◌==◌, List, [], ◌∷◌, ◌++◌, if◌then◌else◌, bytes_eq, codes}
+use Rattle.std.specs.Prelude.{ℕ, Bool, Option, Some, None, length, true, false, not, ◌&&◌, ◌||◌, ◌==◌, List, [], ◌∷◌, ◌++◌, if◌then◌else◌, bytes_eq, codes}
 use Rattle.std.specs.List.{list_all, list_any}
 use Rattle.std.specs.Char.{is_ascii_digit}
 use Rattle.std.specs.Str.{chars, is_utf8}
@@ -17,11 +17,19 @@ abbrev pub is_segment_of : List ℕ → Bool
 is_segment_of [] = false
 is_segment_of (c ∷ cs) = is_start c && list_all is_xid_continue cs
 
--- segments joined by dots; within a segment, the first argument is true
+-- whether a segment has begun once a character is read: in a segment a dot ends it, and each segment begins anew
+abbrev pub segment_step : Bool → ℕ → Option Bool
+segment_step true c = if c == 46 then Some false else (if is_xid_continue c then Some true else None)
+segment_step false c = if is_start c then Some true else None
+
+abbrev pub on_step : Option Bool → (Bool → Bool) → Bool
+on_step None f = false
+on_step (Some within) f = f within
+
+-- segments joined by dots
 abbrev pub are_segments_of : Bool → List ℕ → Bool
 are_segments_of within [] = within
-are_segments_of false (c ∷ cs) = is_start c && are_segments_of true cs
-are_segments_of true (c ∷ cs) = if c == 46 then are_segments_of false cs else (is_xid_continue c && are_segments_of true cs)
+are_segments_of within (c ∷ cs) = on_step (segment_step within c) (λ next. are_segments_of next cs)
 
 -- the words of the theory language, which are no names
 abbrev pub keywords : List Name
@@ -41,8 +49,7 @@ is_name n = is_utf8 n && (are_segments_of false (chars n) || bytes_eq n (codes "
 -- `x` and at least one digit, which is what canonical text calls bound variables
 abbrev pub is_numbered : Name → Bool
 is_numbered [] = false
-is_numbered (c ∷ []) = false
-is_numbered (c ∷ d ∷ ds) = (c == 120) && list_all is_ascii_digit (d ∷ ds)
+is_numbered (c ∷ digits) = (c == 120) && not (length digits == 0) && list_all is_ascii_digit digits
 
 -- the names of the two constants of a type definition
 abbrev pub dot_abs : Name → Name

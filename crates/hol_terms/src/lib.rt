@@ -2,5 +2,8 @@
 //! repository rests on: well-typedness, the rules, derivability, the base definitions, canonical text and sound outputs.
 #![tactic(auto)]
 
+pub mod defs;
+pub mod names;
+pub mod sig;
 pub mod terms;
 pub mod types;

@@ -1,15 +1,17 @@
-ghost use Rattle.std.specs.Prelude.{◌≡◌, IfOk, string_bytes, length, [], ◌∷◌, codes};
+ghost use Rattle.std.specs.Prelude.{◌≡◌, IfOk, OnOk, IsSomeAnd, string_bytes, length, [], ◌∷◌, codes};
 ghost use Rattle.hol_terms.specs.Tm.{tm_index, tm_free, tm_const, tm_comb, tm_abs};
 ghost use Rattle.hol_terms.specs.Typing.{tm_type, range_ty, fun_ty};
 ghost use Rattle.hol_terms.specs.TmBody.{tm_of_body, HoldsType};
 ghost use Rattle.hol_terms.specs.TmNode.{IsTmNode};
 ghost use Rattle.hol_terms.specs.Binding.{var_cmp, tm_bind};
 ghost use Rattle.hol_terms.specs.Definition.{eq_ty};
-ghost use Rattle.hol_terms.specs.TyVars.{ty_vars, const_at, own_const};
+ghost use Rattle.hol_terms.specs.Signature.{generic_of};
+ghost use Rattle.hol_terms.specs.TyVars.{ty_vars, tm_ty_vars, const_at, own_const};
 ghost use Rattle.hol_terms.specs.Sequent.{eq_tm};
 ghost use Rattle.hol_terms.specs.Loose.{HasAt, IsClosedAt};
 
-use crate::types::{HolType, copy_all};
+use crate::sig::Sig;
+use crate::types::{HolType, add_vars_of, copy_all};
 use std::alloc::{AllocError, Global};
 use std::cmp::Ordering;
 use std::marker::Model;
@@ -225,6 +227,22 @@ impl Term {
         Term::close(alloc, TermBody::Const(name, args, ty))
     }
 
+    /// The constant of the signature at `args`, which replace the type variables of its generic type by first occurrence.
+    pub fn mk_const(
+        alloc: Global,
+        sig: &Sig,
+        name: &str,
+        args: &[HolType],
+    ) -> Result<Term, AllocError>
+        requires { IsSomeAnd (generic_of sig.now name.now) (λ g. length args.now ≡ length (ty_vars g [])) }
+        ensures { IfOk result (λ t. IsSomeAnd (generic_of sig.now name.now) (λ g. t ≡ const_at name.now g args.now)) }
+    {
+        match sig.generic(name) {
+            Some(generic) => Term::mk_const_at(alloc, name, generic, args),
+            None => unreachable!(),
+        }
+    }
+
     /// The constant whose generic type is `ty`, at the type variables of `ty`.
     pub fn mk_own_const(alloc: Global, name: &str, ty: &HolType) -> Result<Term, AllocError>
         ensures { IfOk result (λ c. c ≡ own_const name.now ty.now) }
@@ -233,6 +251,33 @@ impl Term {
         let args = ty.vars(alloc)?;
         let ty = ty.copy()?;
         Term::close(alloc, TermBody::Const(name, args, ty))
+    }
+
+    /// The type variables of the term, each once, by first occurrence.
+    pub fn ty_vars(&self, alloc: Global) -> Result<Vec<HolType>, AllocError>
+        ensures { IfOk result (λ v. v.items ≡ tm_ty_vars self.now []) }
+    {
+        let mut seen = Vec::new(alloc);
+        self.add_ty_vars(&mut seen)?;
+        Ok(seen)
+    }
+
+    fn add_ty_vars(&self, seen: &mut Vec<HolType>) -> Result<(), AllocError>
+        ensures { OnOk result (seen.new.items ≡ tm_ty_vars self.now seen.old.items) }
+    {
+        match self.view() {
+            TermNode::Index(_) => Ok(()),
+            TermNode::Free(v) => v.ty().add_vars(seen),
+            TermNode::Const(_, args) => add_vars_of(args, seen),
+            TermNode::Comb(f, x) => {
+                f.add_ty_vars(seen)?;
+                x.add_ty_vars(seen)
+            }
+            TermNode::Abs(a, b) => {
+                a.add_vars(seen)?;
+                b.add_ty_vars(seen)
+            }
+        }
     }
 
     /// The term with the variable `v` bound by the binder that `depth` binders lie before.

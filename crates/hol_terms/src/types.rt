@@ -2,7 +2,7 @@ ghost use Rattle.std.specs.Prelude.{◌≡◌, IfOk, string_bytes};
 ghost use Rattle.std.specs.Prelude.{[], OnOk};
 ghost use Rattle.std.specs.List.{list_any};
 ghost use Rattle.std.specs.Ordering.{is_eq};
-ghost use Rattle.hol_terms.specs.TyVars.{ty_vars, with_var, pairs_of, instance_at, var_name};
+ghost use Rattle.hol_terms.specs.TyVars.{ty_vars, tys_vars, with_var, pairs_of, instance_at, var_name};
 ghost use Rattle.hol_terms.specs.Ty.{ty_var, ty_app, tys};
 ghost use Rattle.hol_terms.specs.Shape.{ty_of_body};
 ghost use Rattle.std.specs.Cmp.Lexicographic.{slice_cmp};
@@ -127,7 +127,7 @@ impl HolType {
     }
 
     #[tactic(auto, using(crate::proofs::Lists::vars_lemmas))]
-    fn add_vars(&self, seen: &mut Vec<HolType>) -> Result<(), AllocError>
+    pub(crate) fn add_vars(&self, seen: &mut Vec<HolType>) -> Result<(), AllocError>
         ensures { OnOk result (seen.new.items ≡ ty_vars self.now seen.old.items) }
     {
         match self.view() {
@@ -138,6 +138,17 @@ impl HolType {
                 }
                 Ok(())
             }
+        }
+    }
+
+    /// The domain of a function type.
+    pub fn domain(&self) -> &HolType
+        requires { self.now ≡ fun_ty (domain_ty self.now) (range_ty self.now) }
+        ensures { result.now ≡ domain_ty self.now }
+    {
+        match self.view() {
+            TypeNode::App(_, args) => &args[0],
+            TypeNode::Var(_) => unreachable!(),
         }
     }
 
@@ -212,6 +223,17 @@ impl HolType {
             }
         }
     }
+}
+
+/// Adds the type variables of each of the types that aren't there yet.
+#[tactic(auto, using(crate::proofs::Lists::vars_lemmas))]
+pub(crate) fn add_vars_of(types: &[HolType], seen: &mut Vec<HolType>) -> Result<(), AllocError>
+    ensures { OnOk result (seen.new.items ≡ tys_vars (tys types.now) seen.old.items) }
+{
+    for ty in types {
+        ty.add_vars(seen)?;
+    }
+    Ok(())
 }
 
 fn add_var(seen: &mut Vec<HolType>, v: &HolType) -> Result<(), AllocError>

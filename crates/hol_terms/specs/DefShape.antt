@@ -1,0 +1,9 @@
+-- What a definition in the code stands for. The number of a step is no part of it.
+use Rattle.std.specs.Prelude.{string_bytes}
+use Rattle.hol_terms.specs.Definition.{Definition, const_def, type_def}
+use Rattle.hol_terms.specs.declared.defs.Def.{Def}
+use Rattle.hol_terms.specs.declared.defs.Def.TheVariants.{Const, NewType}
+
+abbrev pub definition_of : Def → Definition
+definition_of (Const name body) = const_def (string_bytes name) body
+definition_of (NewType name pred from) = type_def (string_bytes name) pred
