@@ -5,3 +5,6 @@ pub mod LooseLemmas
 pub mod TotalOrder
 pub mod NameLemmas
 pub mod Tables
+pub mod Weaken
+pub mod Typed
+pub mod Defining
