@@ -6,3 +6,6 @@ pub mod TotalOrder
 pub mod AsciiNames
 pub mod Checked
 pub mod PlainTrees
+pub mod BaseOpened
+pub mod BaseTyped
+pub mod BaseLinesRead

@@ -25,3 +25,5 @@ pub mod TmBody
 pub mod TmFalls
 pub mod TmNode
 pub mod Keeps
+pub mod WellFormed
+pub mod BaseLines
