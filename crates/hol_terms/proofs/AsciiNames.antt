@@ -6,7 +6,7 @@ use Rattle.std.specs.Char.{is_ascii_alphabetic, is_ascii_alphanumeric}
 use Rattle.std.specs.Str.{chars, is_utf8, IsAscii}
 use Rattle.std.proofs.lemmas.Str.{is_utf8-from_IsUtf8, IsUtf8-from_ascii, chars-IsAscii}
 use Rattle.std.proofs.lemmas.Str.Ascii.{IsAscii-nil, IsAscii-cons}
-use Rattle.std.proofs.lemmas.Bool.{and_parts, and_from, or_cases, or_left, or_right, eqb-true}
+use Rattle.std.proofs.lemmas.Bool.{and_parts, and_from, or_cases, or_left, or_right}
 use Rattle.std.proofs.lemmas.Bool.Decides.{nat_tests}
 use Rattle.std.proofs.lemmas.Slice.Eq.{bytes_eq-Decides}
 use Rattle.std.proofs.Common.{inl, inr}
@@ -95,9 +95,9 @@ unfolding is_name
 is_name_from_ascii n h =
     let p = and_parts (are_ascii_segments false n || bytes_eq n (codes "0")) (not (is_keyword n)) h in
     let named : (is_utf8 n && (are_segments_of false (chars n) || bytes_eq n (codes "0"))) ≡ true =
-        elim (or_cases (are_ascii_segments false n) (bytes_eq n (codes "0")) p.0) [
-          inl s ↦ (let m = segments_are false n s in let r = read_as are_joined n m.1 m.0 in and_from _ _ r.0 (or_left _ _ r.1))
-        | inr z ↦ (let a : IsAscii n = subst IsAscii (sym ((bytes_eq-Decides n (codes "0")).0 z)) ascii_zero in
-            and_from _ _ (is_utf8-from_IsUtf8 n (IsUtf8-from_ascii n a)) (or_right _ _ z))
-        ] in
+    elim (or_cases (are_ascii_segments false n) (bytes_eq n (codes "0")) p.0) [
+      | inl s ↦ (let m = segments_are false n s in let r = read_as are_joined n m.1 m.0 in and_from _ _ r.0 (or_left _ _ r.1))
+      | inr z ↦ (let a : IsAscii n = subst IsAscii (sym ((bytes_eq-Decides n (codes "0")).0 z)) ascii_zero in
+          and_from _ _ (is_utf8-from_IsUtf8 n (IsUtf8-from_ascii n a)) (or_right _ _ z))
+    ] in
     and_from _ _ named p.1

@@ -1,5 +1,5 @@
 -- The text of the base definitions and of the axioms, computed.
-use Rattle.std.proofs.Common.{◌≡◌, List, map, refl}
+use Rattle.std.proofs.Common.{◌≡◌, map, refl}
 use Rattle.std.specs.Fmt.{digits}
 use Rattle.hol_terms.specs.Base.{base_definitions}
 use Rattle.hol_terms.specs.Logic.{axioms}

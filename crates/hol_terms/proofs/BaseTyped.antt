@@ -1,5 +1,5 @@
 -- Each base definition is well formed after those before it.
-use Rattle.std.proofs.Common.{◌≡◌, ℕ, zero, suc, Bool, true, false, not, ◌&&◌, List, [], ◌∷◌, ◌++◌, take, Option, Some, None, refl, ap, sym, ◌∙◌, subst}
+use Rattle.std.proofs.Common.{◌≡◌, ℕ, zero, suc, Bool, true, not, ◌&&◌, List, [], ◌∷◌, ◌++◌, take, Some, refl, ap, subst}
 use Rattle.std.specs.Prelude.{slice_get}
 use Rattle.std.proofs.lemmas.Bool.{and_parts, and_from, not-true}
 use Rattle.hol_terms.specs.Name.{Name, is_numbered, dot_abs, dot_rep}
@@ -11,7 +11,7 @@ use Rattle.hol_terms.specs.Definition.{Definition, const_def, type_def, bool_ty,
 use Rattle.hol_terms.specs.Rules.{same_ty}
 use Rattle.hol_terms.specs.Proves.{AreConservative}
 use Rattle.hol_terms.specs.Base.{base, base_definitions}
-use Rattle.hol_terms.specs.WellFormed.{IsTypeForm, IsWellFormed}
+use Rattle.hol_terms.specs.WellFormed.{IsWellFormed}
 use Rattle.hol_terms.proofs.AsciiNames.{is_ascii_name, is_name_from_ascii}
 use Rattle.hol_terms.proofs.Checked.{is_over, same_ty-is, IsOver-checked}
 use Rattle.hol_terms.proofs.BaseOpened.{opened_bases}
@@ -56,10 +56,13 @@ well_formed ds (type_def n p) h =
     let d = and_parts (not (has_frees p)) (is_over s [] p && into) c.1 in
     let e = and_parts (is_over s [] p) into d.1 in
     record {
-        named = may_introduce_from s n a.0; named_abs = may_introduce_from s (dot_abs n) b.0; named_rep = may_introduce_from s (dot_rep n) c.0;
-        closed = not-true (has_frees p) d.0; typed = IsOver-checked s [] p e.0;
-        predicate = same_ty-is (tm_type p) (fun_ty (domain_ty (tm_type p)) bool_ty) e.1;
-      }
+      named = may_introduce_from s n a.0;
+      named_abs = may_introduce_from s (dot_abs n) b.0;
+      named_rep = may_introduce_from s (dot_rep n) c.0;
+      closed = not-true (has_frees p) d.0;
+      typed = IsOver-checked s [] p e.0;
+      predicate = same_ty-is (tm_type p) (fun_ty (domain_ty (tm_type p)) bool_ty) e.1;
+    }
 
 append_take : (before ds : List Definition) (d : Definition) (k : ℕ) → (before ++ d ∷ []) ++ take k ds ≡ before ++ take (suc k) (d ∷ ds)
 append_take [] ds d k = refl
@@ -91,6 +94,19 @@ base_well_formed k d e = well_formed_at [] base_definitions k d base_passes e
 
 pub base_conservative : AreConservative (base 10)
 unfolding opened_bases base_definitions
-base_conservative =
-    (base_well_formed 0 _ refl, (base_well_formed 1 _ refl, (base_well_formed 2 _ refl, (base_well_formed 3 _ refl, (base_well_formed 4 _ refl, 
-    (base_well_formed 5 _ refl, (base_well_formed 6 _ refl, (base_well_formed 7 _ refl, (base_well_formed 8 _ refl, (base_well_formed 9 _ refl, tt))))))))))
+base_conservative = (
+  base_well_formed 0 _ refl,
+  (
+    base_well_formed 1 _ refl,
+    (
+      base_well_formed 2 _ refl,
+      (
+        base_well_formed 3 _ refl,
+        (
+          base_well_formed 4 _ refl,
+          (base_well_formed 5 _ refl, (base_well_formed 6 _ refl, (base_well_formed 7 _ refl, (base_well_formed 8 _ refl, (base_well_formed 9 _ refl, tt))))),
+        ),
+      ),
+    ),
+  ),
+)

@@ -1,12 +1,12 @@
 -- Well typed terms over one signature are told apart by their plain trees.
-use Rattle.std.proofs.Common.{◌≡◌, List, [], ◌∷◌, Option, Some, refl, ap, sym, ◌∙◌, subst}
+use Rattle.std.proofs.Common.{◌≡◌, List, ◌∷◌, Some, ap, sym, ◌∙◌, subst}
 use Rattle.std.specs.Prelude.{slice_get}
 use Rattle.hol_terms.specs.Name.{Name}
 use Rattle.hol_terms.specs.Ty.{Ty}
 use Rattle.hol_terms.specs.Tm.{Tm, tm_index, tm_free, tm_const, tm_comb, tm_abs}
 use Rattle.hol_terms.specs.TyVars.{instance_at}
-use Rattle.hol_terms.specs.Signature.{Signature, generic_of, IsConstOver, IsOver}
-use Rattle.hol_terms.specs.Plain.{Plain, plain_index, plain_free, plain_const, plain_comb, plain_abs, plain}
+use Rattle.hol_terms.specs.Signature.{Signature, IsConstOver, IsOver}
+use Rattle.hol_terms.specs.Plain.{plain}
 
 some_is : {A : Type 0} (x y : A) → Some x ≡ Some y → x ≡ y
 some_is x y e = cc

@@ -1,5 +1,5 @@
 -- What a definition has to meet, but for the witness that the predicate of a new type holds of something.
-use Rattle.std.specs.Prelude.{◌≡◌, true, false, List, [], ◌∷◌, ◌++◌}
+use Rattle.std.specs.Prelude.{◌≡◌, true, false, List, []}
 use Rattle.hol_terms.specs.Name.{Name, dot_abs, dot_rep}
 use Rattle.hol_terms.specs.Tm.{Tm}
 use Rattle.hol_terms.specs.Typing.{tm_type, domain_ty, fun_ty}

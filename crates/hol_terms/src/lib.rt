@@ -2,5 +2,6 @@
 //! repository rests on: well-typedness, the rules, derivability, the base definitions, canonical text and sound outputs.
 #![tactic(auto)]
 
+pub mod laws;
 pub mod terms;
 pub mod types;
