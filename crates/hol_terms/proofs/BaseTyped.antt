@@ -1,17 +1,18 @@
 -- Each base definition is well formed after those before it.
-use Rattle.std.proofs.Common.{◌≡◌, ℕ, zero, suc, Bool, true, not, ◌&&◌, List, [], ◌∷◌, ◌++◌, take, Some, refl, ap, subst}
+use Rattle.std.proofs.Common.{◌≡◌, ℕ, zero, suc, Bool, true, not, ◌&&◌, List, [], ◌∷◌, ◌++◌, take, Some, refl, ap, sym, ◌∙◌, subst}
 use Rattle.std.specs.Prelude.{slice_get}
 use Rattle.std.proofs.lemmas.Bool.{and_parts, and_from, not-true}
 use Rattle.hol_terms.specs.Name.{Name, is_numbered, dot_abs, dot_rep}
-use Rattle.hol_terms.specs.Tm.{Tm}
+use Rattle.hol_terms.specs.Sequent.{seq}
+use Rattle.hol_terms.specs.Tm.{Tm, tm_comb}
 use Rattle.hol_terms.specs.Typing.{tm_type, domain_ty, fun_ty}
 use Rattle.hol_terms.specs.TyVars.{tm_within}
 use Rattle.hol_terms.specs.Signature.{Signature, is_new, may_introduce}
 use Rattle.hol_terms.specs.Definition.{Definition, const_def, type_def, bool_ty, signature_of, has_frees}
 use Rattle.hol_terms.specs.Rules.{same_ty}
-use Rattle.hol_terms.specs.Proves.{AreConservative}
+use Rattle.hol_terms.specs.Proves.{IsConstDef, IsTypeDef, AreConservative, Proves}
 use Rattle.hol_terms.specs.Base.{base, base_definitions}
-use Rattle.hol_terms.specs.WellFormed.{IsWellFormed}
+use Rattle.hol_terms.specs.WellFormed.{IsTypeForm, IsWellFormed}
 use Rattle.hol_terms.proofs.AsciiNames.{is_ascii_name, is_name_from_ascii}
 use Rattle.hol_terms.proofs.Checked.{is_over, same_ty-is, IsOver-checked}
 use Rattle.hol_terms.proofs.BaseOpened.{opened_bases}
@@ -110,3 +111,20 @@ base_conservative = (
     ),
   ),
 )
+
+-- what is built as a base constant may be defined after those before it
+pub const_def_at : (k : ℕ) (d : Definition) (c : Name) (t : Tm) → slice_get base_definitions k ≡ Some d → const_def c t ≡ d → IsConstDef (base k) c t
+const_def_at k d c t e same = base_well_formed k (const_def c t) (e ∙ ap Some (sym same))
+
+-- a base type may be defined once its predicate is shown to hold of some term
+pub type_def_at : (ds : List Definition) (n : Name) (p w : Tm) → IsTypeForm ds n p → Proves ds (seq [] (tm_comb p w)) → IsTypeDef ds n p
+type_def_at ds n p w f h = record {
+  named = f.named;
+  named_abs = f.named_abs;
+  named_rep = f.named_rep;
+  closed = f.closed;
+  typed = f.typed;
+  predicate = f.predicate;
+  witness = w;
+  inhabited = h;
+}
