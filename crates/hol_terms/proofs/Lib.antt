@@ -8,3 +8,9 @@ pub mod Tables
 pub mod Weaken
 pub mod Typed
 pub mod Defining
+pub mod AsciiNames
+pub mod Checked
+pub mod PlainTrees
+pub mod BaseOpened
+pub mod BaseTyped
+pub mod BaseLinesRead

@@ -5,5 +5,6 @@
 pub mod defs;
 pub mod names;
 pub mod sig;
+pub mod laws;
 pub mod terms;
 pub mod types;
