@@ -1,5 +1,5 @@
 -- A test of names that computes: names of ASCII characters.
-use Rattle.std.proofs.Common.{◌≡◌, ℕ, ◌<◌, Bool, true, false, not, ◌&&◌, ◌||◌, List, [], ◌∷◌, cond, refl, ap, sym, ◌∙◌, subst, arith}
+use Rattle.std.proofs.Common.{◌≡◌, ℕ, ◌<◌, Bool, true, false, not, ◌&&◌, ◌||◌, List, [], ◌∷◌, Some, None, cond, refl, ap, sym, ◌∙◌, subst, arith}
 use Rattle.std.specs.Prelude.{◌==◌, if◌then◌else◌, bytes_eq, codes}
 use Rattle.std.specs.List.{list_all}
 use Rattle.std.specs.Char.{is_ascii_alphabetic, is_ascii_alphanumeric}
@@ -12,7 +12,7 @@ use Rattle.std.proofs.lemmas.Slice.Eq.{bytes_eq-Decides}
 use Rattle.std.proofs.Common.{inl, inr}
 use Rattle.unicode_ident.specs.Ident.{is_xid_continue}
 use Rattle.unicode_ident.proofs.IdentLemmas.{is_xid_start-ascii, is_xid_continue-ascii}
-use Rattle.hol_terms.specs.Name.{Name, is_start, is_segment_of, are_segments_of, is_keyword, is_segment, is_name}
+use Rattle.hol_terms.specs.Name.{Name, is_start, is_segment_of, on_step, are_segments_of, is_keyword, is_segment, is_name}
 
 abbrev pub is_ascii_start : ℕ → Bool
 is_ascii_start c = is_ascii_alphabetic c || (c == 95)
@@ -65,24 +65,28 @@ is_segment_from_ascii (c ∷ cs) h =
     let r = read_as is_segment_of (c ∷ cs) (IsAscii-cons c cs (start_below c p.0) m.1) (and_from _ _ (start_is c p.0) m.0) in
     and_from _ _ r.0 r.1
 
+on_step-if : (b x : Bool) (f : Bool → Bool) → on_step (cond b (Some x) None) f ≡ (b && f x)
+on_step-if true x f = refl
+on_step-if false x f = refl
+
 segments_are : (within : Bool) (cs : Name) → are_ascii_segments within cs ≡ true → (are_segments_of within cs ≡ true) × IsAscii cs
 segments_are within [] h = (h, IsAscii-nil)
 segments_are false (c ∷ cs) h =
     let p = and_parts (is_ascii_start c) (are_ascii_segments true cs) h in
     let r = segments_are true cs p.1 in
-    (and_from _ _ (start_is c p.0) r.0, IsAscii-cons c cs (start_below c p.0) r.1)
+    (on_step-if (is_start c) true (λ next. are_segments_of next cs) ∙ and_from _ _ (start_is c p.0) r.0, IsAscii-cons c cs (start_below c p.0) r.1)
 segments_are true (c ∷ cs) h = at (c == 46) refl (segments_are false cs) (segments_are true cs) h
   where
     at : (dot : Bool) → (c == 46) ≡ dot
         → (are_ascii_segments false cs ≡ true → (are_segments_of false cs ≡ true) × IsAscii cs)
         → (are_ascii_segments true cs ≡ true → (are_segments_of true cs ≡ true) × IsAscii cs)
         → cond dot (are_ascii_segments false cs) (is_ascii_more c && are_ascii_segments true cs) ≡ true
-        → (cond dot (are_segments_of false cs) (is_xid_continue c && are_segments_of true cs) ≡ true) × IsAscii (c ∷ cs)
+        → (on_step (cond dot (Some false) (cond (is_xid_continue c) (Some true) None)) (λ next. are_segments_of next cs) ≡ true) × IsAscii (c ∷ cs)
     at true e f g h = let r = f h in let b : c < 128 = grind (arith, nat_tests) in (r.0, IsAscii-cons c cs b r.1)
     at false e f g h =
         let p = and_parts (is_ascii_more c) (are_ascii_segments true cs) h in
         let r = g p.1 in
-        (and_from _ _ (more_is c p.0) r.0, IsAscii-cons c cs (more_below c p.0) r.1)
+        (on_step-if (is_xid_continue c) true (λ next. are_segments_of next cs) ∙ and_from _ _ (more_is c p.0) r.0, IsAscii-cons c cs (more_below c p.0) r.1)
 
 abbrev are_joined : List ℕ → Bool
 are_joined cs = are_segments_of false cs

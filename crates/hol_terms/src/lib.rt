@@ -3,8 +3,8 @@
 #![tactic(auto)]
 
 pub mod defs;
+pub mod laws;
 pub mod names;
 pub mod sig;
-pub mod laws;
 pub mod terms;
 pub mod types;
