@@ -1,9 +1,9 @@
 -- The outputs of `check`: nothing, one `define`, an input over the limit, and what isn't read. What each answers, that it is sound,
 -- and how it is laid out.
 use Rattle.std.proofs.Common.{◌≡◌, ◌≢◌, ℕ, ◌+◌, ◌<◌, ◌≤◌, ◌⊎◌, inl, inr, arith, Bool, true, false, ◌&&◌, Decides, List, [], ◌∷◌, ◌++◌, All, length, take, take_all, length-take, codes, refl, ap, sym, ◌∙◌, subst}
-use Rattle.std.specs.List.{list_all, list_any}
+use Rattle.std.specs.List.{list_all, list_any, flat_map}
 use Rattle.std.specs.Fmt.{digits}
-use Rattle.std.proofs.lemmas.Bool.{and_from}
+use Rattle.std.proofs.lemmas.List.Elements.{All-nil, All-cons}
 use Rattle.hol_terms.specs.Name.{Name}
 use Rattle.hol_terms.specs.Ty.{Ty}
 use Rattle.hol_terms.specs.Tm.{Tm}
@@ -19,7 +19,7 @@ use Rattle.hol_terms.proofs.Defining.{const_derivable}
 use Rattle.hol_terms.proofs.BaseTyped.{base_conservative}
 use Rattle.hb_top.specs.Command.{Define, IsDefine, define_text, term_of}
 use Rattle.hb_top.specs.Answer.{limit, base_line, section_line, define_fact, IsUnbuilt, IsAnswer, over_limit, nothing, defined, unbuilt, is_refusal, answers}
-use Rattle.hb_top.specs.Layout.{unlines, Section, IsTheoremLine, accepted, refused, IsOwned}
+use Rattle.hb_top.specs.Layout.{unlines, Section, section_lines, IsTheoremLine, accepted, refused, IsOwned}
 use Rattle.hb_top.proofs.OutputLines.{is_line, answers_read, sound_from_lines, owned_from_lines}
 
 abbrev pub limit_line : Text
@@ -113,3 +113,68 @@ answer_unbuilt b h u = subst (IsAnswer b) (sym answers_unbuilt) (unbuilt h u)
 
 pub answer_defined : (b : Text) (d : Define) → length b ≤ limit → IsDefine d → b ≡ define_text d → AreLines d → IsAnswer b (answers (out_defined d))
 answer_defined b d h i e l = subst (IsAnswer b) (sym (answers_defined d l)) (defined d h i e)
+
+-- how each output is laid out
+theorem_line_is : (d : Define) → IsTheoremLine (define_fact d)
+theorem_line_is d = refl
+
+pub owned_nothing : IsOwned out_nothing
+owned_nothing = owned_from_lines [] [] (base_line ∷ []) nothing_lines refl (All-nil _) accepted
+
+pub owned_limit : IsOwned out_limit
+owned_limit = owned_from_lines [] (limit_line ∷ []) (base_line ∷ limit_line ∷ []) limit_lines refl (All-nil _) (refused limit_line refl)
+
+pub owned_unbuilt : IsOwned out_unbuilt
+owned_unbuilt = owned_from_lines [] (unbuilt_line ∷ []) (base_line ∷ unbuilt_line ∷ []) unbuilt_lines refl (All-nil _) (refused unbuilt_line refl)
+
+-- the section of a `define`
+abbrev pub section_of : Define → Section
+section_of d = record { number = 1; name = d.name; body = term_of d; theorems = define_fact d ∷ [] }
+
+section_laid_out : (d : Define) → defined_lines d ≡ base_line ∷ flat_map section_lines (section_of d ∷ []) ++ []
+unfolding digits
+section_laid_out d = refl
+
+pub owned_defined : (d : Define) → AreLines d → IsOwned (out_defined d)
+owned_defined d h =
+    owned_from_lines (section_of d ∷ []) [] (defined_lines d) (defined_are_lines d h) (section_laid_out d)
+    (All-cons (λ s. All IsTheoremLine s.theorems) (section_of d) [] (All-cons IsTheoremLine (define_fact d) [] (theorem_line_is d) (All-nil IsTheoremLine)) (All-nil _))
+    accepted
+
+-- each output is sound over the base definitions
+pub sound_nothing : IsSound (base 10) out_nothing
+sound_nothing = sound_from_lines (base 10) (base_line ∷ []) nothing_lines tt
+
+pub sound_limit : IsSound (base 10) out_limit
+sound_limit = sound_from_lines (base 10) (base_line ∷ limit_line ∷ []) limit_lines tt
+
+pub sound_unbuilt : IsSound (base 10) out_unbuilt
+sound_unbuilt = sound_from_lines (base 10) (base_line ∷ unbuilt_line ∷ []) unbuilt_lines tt
+
+-- the equation of a new constant, with its type stated
+stated_derivable : (ds : List Definition) (c : Name) (t : Tm) (u : Ty) → AreConservative ds → IsConstDef ds c t → tm_type t ≡ u
+    → IsDerivable (ds ++ const_def c t ∷ []) (seq [] (eq_tm (own_const c u) t))
+stated_derivable ds c t u h k e = subst (λ v. IsDerivable (ds ++ const_def c t ∷ []) (seq [] (eq_tm (own_const c v) t))) e (const_derivable ds c t h k)
+
+-- the lines of a definition and of its equation, after others
+section_sound : (ds : List Definition) (c : Name) (t : Tm) (u : Ty) (n : Name) → AreConservative ds → IsConstDef ds c t → tm_type t ≡ u
+    → AreSoundAfter ds (definition_line (const_def c t) ∷ theorem_line n (eq_tm (own_const c u) t) ∷ [])
+section_sound ds c t u n h k e = (const_def c t, refl, k, (n, eq_tm (own_const c u) t, refl, stated_derivable ds c t u h k e, tt))
+
+pub sound_defined : (d : Define) → AreLines d → IsConstDef (base 10) d.name (term_of d) → tm_type (term_of d) ≡ d.ty → IsSound (base 10) (out_defined d)
+sound_defined d h k e =
+    sound_from_lines (base 10) (defined_lines d) (defined_are_lines d h)
+    (section_sound (base 10) d.name (term_of d) d.ty (d.name ++ codes ".def") base_conservative k e)
+
+-- which outputs have a refusal
+pub refusal_nothing : list_any is_refusal (answers out_nothing) ≡ false
+refusal_nothing = ap (list_any is_refusal) answers_nothing
+
+pub refusal_defined : (d : Define) → AreLines d → list_any is_refusal (answers (out_defined d)) ≡ false
+refusal_defined d h = ap (list_any is_refusal) (answers_defined d h)
+
+pub refusal_limit : list_any is_refusal (answers out_limit) ≡ true
+refusal_limit = ap (list_any is_refusal) answers_limit
+
+pub refusal_unbuilt : list_any is_refusal (answers out_unbuilt) ≡ true
+refusal_unbuilt = ap (list_any is_refusal) answers_unbuilt
