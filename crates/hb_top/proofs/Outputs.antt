@@ -3,6 +3,7 @@
 use Rattle.std.proofs.Common.{◌≡◌, ◌≢◌, ℕ, ◌+◌, ◌<◌, ◌≤◌, ◌⊎◌, inl, inr, arith, Bool, true, false, ◌&&◌, Decides, List, [], ◌∷◌, ◌++◌, All, length, take, take_all, length-take, codes, refl, ap, sym, ◌∙◌, subst}
 use Rattle.std.specs.List.{list_all, list_any, flat_map}
 use Rattle.std.specs.Fmt.{digits}
+use Rattle.std.proofs.lemmas.Bool.{false≢true}
 use Rattle.std.proofs.lemmas.List.Elements.{All-nil, All-cons}
 use Rattle.hol_terms.specs.Name.{Name}
 use Rattle.hol_terms.specs.Ty.{Ty}
@@ -178,3 +179,65 @@ refusal_limit = ap (list_any is_refusal) answers_limit
 
 pub refusal_unbuilt : list_any is_refusal (answers out_unbuilt) ≡ true
 refusal_unbuilt = ap (list_any is_refusal) answers_unbuilt
+
+-- the command's text is never empty
+define_text-not_empty : (d : Define) → define_text d ≢ []
+define_text-not_empty d e = cc
+
+-- a text has one answer, where a command has one reading
+abbrev Unique : Type 0
+Unique = (d e : Define) → IsDefine d → IsDefine e → define_text d ≡ define_text e → d ≡ e
+
+not_long : (b : Text) → limit < length b → length b ≤ limit → ⊥
+not_long b h g = omega arith
+
+not_long_empty : (b : Text) → limit < length b → b ≡ [] → ⊥
+not_long_empty b h e = let z : length b ≡ 0 = ap length e in omega arith
+
+pub one_answer : Unique → (b : Text) (l m : List Text) → IsAnswer b l → IsAnswer b m → l ≡ m
+one_answer unique b l m (over_limit h) (over_limit g) = refl
+one_answer unique b l m (over_limit h) (nothing e) = absurd (not_long_empty b h e)
+one_answer unique b l m (over_limit h) (defined d g i e) = absurd (not_long b h g)
+one_answer unique b l m (over_limit h) (unbuilt g u) = absurd (not_long b h g)
+one_answer unique b l m (nothing e) (over_limit h) = absurd (not_long_empty b h e)
+one_answer unique b l m (nothing e) (nothing f) = refl
+one_answer unique b l m (nothing e) (defined d g i f) = absurd (define_text-not_empty d (sym f ∙ e))
+one_answer unique b l m (nothing e) (unbuilt g u) = absurd (u.not_empty e)
+one_answer unique b l m (defined d g i e) (over_limit h) = absurd (not_long b h g)
+one_answer unique b l m (defined d g i e) (nothing f) = absurd (define_text-not_empty d (sym e ∙ f))
+one_answer unique b l m (defined d g i e) (defined d2 g2 i2 e2) = ap defined_answer (unique d d2 i i2 (sym e ∙ e2))
+one_answer unique b l m (defined d g i e) (unbuilt g2 u) = absurd (u.no_define d i e)
+one_answer unique b l m (unbuilt g u) (over_limit h) = absurd (not_long b h g)
+one_answer unique b l m (unbuilt g u) (nothing e) = absurd (u.not_empty e)
+one_answer unique b l m (unbuilt g u) (defined d g2 i e) = absurd (u.no_define d i e)
+one_answer unique b l m (unbuilt g u) (unbuilt g2 u2) = refl
+
+-- an answer has a refusal exactly where it is one of the two refusals
+refused_is : (b : Text) (l : List Text) → IsAnswer b l → list_any is_refusal l ≡ true → (l ≡ limit_answer) ⊎ (l ≡ unbuilt_answer)
+refused_is b l (over_limit h) r = inl refl
+refused_is b l (nothing e) r = absurd (false≢true r)
+refused_is b l (defined d g i e) r = absurd (false≢true r)
+refused_is b l (unbuilt g u) r = inr refl
+
+has_refusal : (l : List Text) → (l ≡ limit_answer) ⊎ (l ≡ unbuilt_answer) → list_any is_refusal l ≡ true
+has_refusal l (inl e) = ap (list_any is_refusal) e
+has_refusal l (inr e) = ap (list_any is_refusal) e
+
+pub refusal_decided : (b : Text) (l : List Text) → IsAnswer b l → Decides (list_any is_refusal l) ((l ≡ limit_answer) ⊎ (l ≡ unbuilt_answer))
+refusal_decided b l a = (refused_is b l a, has_refusal l)
+
+-- a front of one more byte than n is longer than n exactly where the whole text is, and else it is all of the text
+front_long : (n : ℕ) (b : Text) → n < length (take (n + 1) b) → n < length b
+front_long n b h = omega (arith, length-take (n + 1) b)
+
+front_all : (n : ℕ) (b : Text) → length (take (n + 1) b) ≤ n → take (n + 1) b ≡ b
+front_all n b h = take_all (n + 1) b (let k : length b ≤ n + 1 = omega (arith, length-take (n + 1) b) in k)
+
+answer_at : (n : ℕ) (b : Text) (ls : List Text) → n ≡ limit → IsAnswer (take (n + 1) b) ls → IsAnswer b ls
+answer_at n b ls e (over_limit h) = over_limit (let k : n < length b = front_long n b (omega arith) in omega arith)
+answer_at n b ls e (nothing f) = subst (λ c. IsAnswer c (base_line ∷ [])) (front_all n b (let z = ap length f in omega arith)) (nothing f)
+answer_at n b ls e (defined d h i f) = subst (λ c. IsAnswer c (defined_answer d)) (front_all n b (omega arith)) (defined d h i f)
+answer_at n b ls e (unbuilt h u) = subst (λ c. IsAnswer c unbuilt_answer) (front_all n b (omega arith)) (unbuilt h u)
+
+pub answer_of_front : (b : Text) (ls : List Text) → IsAnswer (take (limit + 1) b) ls → IsAnswer b ls
+answer_of_front b ls a = answer_at limit b ls refl a
