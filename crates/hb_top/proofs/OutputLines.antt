@@ -1,5 +1,5 @@
--- Lines that are written one below another are read back, and what the fronts of lines say of them.
-use Rattle.std.proofs.Common.{◌≡◌, Bool, true, not, ◌&&◌, ◌==◌, List, [], ◌∷◌, ◌++◌, All, filter, append_assoc, append-nil, refl, ap, sym, subst, ◌∙◌}
+-- Lines that are written one below another are read back. What an output answers, its layout and its soundness, by its lines.
+use Rattle.std.proofs.Common.{◌≡◌, Bool, true, not, ◌==◌, List, [], ◌∷◌, ◌++◌, All, filter, append_assoc, append-nil, refl, ap, sym, subst, ◌∙◌}
 use Rattle.std.specs.List.{list_all, flat_map}
 use Rattle.std.proofs.lemmas.Bool.{and_parts, not-true}
 use Rattle.hol_terms.specs.Definition.{Definition}
@@ -24,7 +24,6 @@ lines_read (l ∷ ls) h =
     let p = and_parts (is_line l) (list_all is_line ls) h in
     line_read [] l (unlines ls) p.0 ∙ ap (λ ms. l ∷ ms) (lines_read ls p.1)
 
--- the answer lines, the layout and the soundness of an output, by its lines
 pub answers_read : (ls : List Text) → list_all is_line ls ≡ true → answers (unlines ls) ≡ filter is_answer_line ls
 answers_read ls h = ap (filter is_answer_line) (lines_read ls h)
 

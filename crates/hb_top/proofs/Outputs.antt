@@ -1,6 +1,6 @@
 -- The outputs of `check`: nothing, one `define`, an input over the limit, and what isn't read. What each answers, that it is sound,
 -- and how it is laid out.
-use Rattle.std.proofs.Common.{◌≡◌, ◌≢◌, ℕ, ◌+◌, ◌<◌, ◌≤◌, ◌⊎◌, inl, inr, arith, Bool, true, false, ◌&&◌, Decides, List, [], ◌∷◌, ◌++◌, All, length, take, take_all, length-take, codes, refl, ap, sym, ◌∙◌, subst}
+use Rattle.std.proofs.Common.{◌≡◌, ◌≢◌, ℕ, ◌+◌, ◌<◌, ◌≤◌, ◌⊎◌, inl, inr, arith, true, false, Decides, List, [], ◌∷◌, ◌++◌, All, length, take, take_all, length-take, codes, refl, ap, sym, ◌∙◌, subst}
 use Rattle.std.specs.List.{list_all, list_any, flat_map}
 use Rattle.std.specs.Fmt.{digits}
 use Rattle.std.proofs.lemmas.Bool.{false≢true}
@@ -45,23 +45,28 @@ limit_answer = base_line ∷ limit_line ∷ []
 abbrev pub unbuilt_answer : List Text
 unbuilt_answer = base_line ∷ unbuilt_line ∷ []
 
--- the outputs
-abbrev pub out_nothing : Text
-out_nothing = unlines (base_line ∷ [])
-
+-- all lines to a `define`
 abbrev pub defined_lines : Define → List Text
 defined_lines d = base_line ∷ section_line d ∷ def_line d ∷ define_fact d ∷ []
+
+-- the outputs
+abbrev pub out_nothing : Text
+out_nothing = unlines nothing_answer
 
 abbrev pub out_defined : Define → Text
 out_defined d = unlines (defined_lines d)
 
 abbrev pub out_limit : Text
-out_limit = unlines (base_line ∷ limit_line ∷ [])
+out_limit = unlines limit_answer
 
 abbrev pub out_unbuilt : Text
-out_unbuilt = unlines (base_line ∷ unbuilt_line ∷ [])
+out_unbuilt = unlines unbuilt_answer
 
 -- none of the lines has a newline in it
+base_is_line : is_line base_line ≡ true
+unfolding digits
+base_is_line = refl
+
 nothing_lines : list_all is_line nothing_answer ≡ true
 unfolding digits
 nothing_lines = refl
@@ -74,7 +79,7 @@ unbuilt_lines : list_all is_line unbuilt_answer ≡ true
 unfolding digits
 unbuilt_lines = refl
 
--- the lines of a `define` that come from its name, its term and its equation
+-- nor has a line of a `define` that comes from its name, its term or its equation
 pub record AreLines (d : Define) : Type 0 where
   pub name : is_line d.name ≡ true
   pub definition : is_line (def_line d) ≡ true
@@ -83,22 +88,18 @@ pub record AreLines (d : Define) : Type 0 where
 four_lines : (a b c d : Text) → is_line a ≡ true → is_line b ≡ true → is_line c ≡ true → is_line d ≡ true → list_all is_line (a ∷ b ∷ c ∷ d ∷ []) ≡ true
 four_lines a b c d e f g h = rw (e, f, g, h) refl
 
-base_is_line : is_line base_line ≡ true
-unfolding digits
-base_is_line = refl
-
 defined_are_lines : (d : Define) → AreLines d → list_all is_line (defined_lines d) ≡ true
 defined_are_lines d h = four_lines base_line (section_line d) (def_line d) (define_fact d) base_is_line h.name h.definition h.fact
 
 -- which lines of each output are its answer
 pub answers_nothing : answers out_nothing ≡ nothing_answer
-answers_nothing = answers_read (base_line ∷ []) nothing_lines
+answers_nothing = answers_read nothing_answer nothing_lines
 
 pub answers_limit : answers out_limit ≡ limit_answer
-answers_limit = answers_read (base_line ∷ limit_line ∷ []) limit_lines
+answers_limit = answers_read limit_answer limit_lines
 
 pub answers_unbuilt : answers out_unbuilt ≡ unbuilt_answer
-answers_unbuilt = answers_read (base_line ∷ unbuilt_line ∷ []) unbuilt_lines
+answers_unbuilt = answers_read unbuilt_answer unbuilt_lines
 
 pub answers_defined : (d : Define) → AreLines d → answers (out_defined d) ≡ defined_answer d
 answers_defined d h = answers_read (defined_lines d) (defined_are_lines d h)
@@ -116,17 +117,14 @@ pub answer_defined : (b : Text) (d : Define) → length b ≤ limit → IsDefine
 answer_defined b d h i e l = subst (IsAnswer b) (sym (answers_defined d l)) (defined d h i e)
 
 -- how each output is laid out
-theorem_line_is : (d : Define) → IsTheoremLine (define_fact d)
-theorem_line_is d = refl
-
 pub owned_nothing : IsOwned out_nothing
-owned_nothing = owned_from_lines [] [] (base_line ∷ []) nothing_lines refl (All-nil _) accepted
+owned_nothing = owned_from_lines [] [] nothing_answer nothing_lines refl (All-nil _) accepted
 
 pub owned_limit : IsOwned out_limit
-owned_limit = owned_from_lines [] (limit_line ∷ []) (base_line ∷ limit_line ∷ []) limit_lines refl (All-nil _) (refused limit_line refl)
+owned_limit = owned_from_lines [] (limit_line ∷ []) limit_answer limit_lines refl (All-nil _) (refused limit_line refl)
 
 pub owned_unbuilt : IsOwned out_unbuilt
-owned_unbuilt = owned_from_lines [] (unbuilt_line ∷ []) (base_line ∷ unbuilt_line ∷ []) unbuilt_lines refl (All-nil _) (refused unbuilt_line refl)
+owned_unbuilt = owned_from_lines [] (unbuilt_line ∷ []) unbuilt_answer unbuilt_lines refl (All-nil _) (refused unbuilt_line refl)
 
 -- the section of a `define`
 abbrev pub section_of : Define → Section
@@ -139,18 +137,18 @@ section_laid_out d = refl
 pub owned_defined : (d : Define) → AreLines d → IsOwned (out_defined d)
 owned_defined d h =
     owned_from_lines (section_of d ∷ []) [] (defined_lines d) (defined_are_lines d h) (section_laid_out d)
-    (All-cons (λ s. All IsTheoremLine s.theorems) (section_of d) [] (All-cons IsTheoremLine (define_fact d) [] (theorem_line_is d) (All-nil IsTheoremLine)) (All-nil _))
+    (All-cons (λ s. All IsTheoremLine s.theorems) (section_of d) [] (All-cons IsTheoremLine (define_fact d) [] refl (All-nil IsTheoremLine)) (All-nil _))
     accepted
 
 -- each output is sound over the base definitions
 pub sound_nothing : IsSound (base 10) out_nothing
-sound_nothing = sound_from_lines (base 10) (base_line ∷ []) nothing_lines tt
+sound_nothing = sound_from_lines (base 10) nothing_answer nothing_lines tt
 
 pub sound_limit : IsSound (base 10) out_limit
-sound_limit = sound_from_lines (base 10) (base_line ∷ limit_line ∷ []) limit_lines tt
+sound_limit = sound_from_lines (base 10) limit_answer limit_lines tt
 
 pub sound_unbuilt : IsSound (base 10) out_unbuilt
-sound_unbuilt = sound_from_lines (base 10) (base_line ∷ unbuilt_line ∷ []) unbuilt_lines tt
+sound_unbuilt = sound_from_lines (base 10) unbuilt_answer unbuilt_lines tt
 
 -- the equation of a new constant, with its type stated
 stated_derivable : (ds : List Definition) (c : Name) (t : Tm) (u : Ty) → AreConservative ds → IsConstDef ds c t → tm_type t ≡ u
@@ -180,13 +178,8 @@ refusal_limit = ap (list_any is_refusal) answers_limit
 pub refusal_unbuilt : list_any is_refusal (answers out_unbuilt) ≡ true
 refusal_unbuilt = ap (list_any is_refusal) answers_unbuilt
 
--- the command's text is never empty
-define_text-not_empty : (d : Define) → define_text d ≢ []
+pub define_text-not_empty : (d : Define) → define_text d ≢ []
 define_text-not_empty d e = cc
-
--- a text has one answer, where a command has one reading
-abbrev Unique : Type 0
-Unique = (d e : Define) → IsDefine d → IsDefine e → define_text d ≡ define_text e → d ≡ e
 
 not_long : (b : Text) → limit < length b → length b ≤ limit → ⊥
 not_long b h g = omega arith
@@ -194,7 +187,8 @@ not_long b h g = omega arith
 not_long_empty : (b : Text) → limit < length b → b ≡ [] → ⊥
 not_long_empty b h e = let z : length b ≡ 0 = ap length e in omega arith
 
-pub one_answer : Unique → (b : Text) (l m : List Text) → IsAnswer b l → IsAnswer b m → l ≡ m
+-- a text has one answer, where a command has one text
+pub one_answer : ((d e : Define) → IsDefine d → IsDefine e → define_text d ≡ define_text e → d ≡ e) → (b : Text) (l m : List Text) → IsAnswer b l → IsAnswer b m → l ≡ m
 one_answer unique b l m (over_limit h) (over_limit g) = refl
 one_answer unique b l m (over_limit h) (nothing e) = absurd (not_long_empty b h e)
 one_answer unique b l m (over_limit h) (defined d g i e) = absurd (not_long b h g)
@@ -226,18 +220,16 @@ has_refusal l (inr e) = ap (list_any is_refusal) e
 pub refusal_decided : (b : Text) (l : List Text) → IsAnswer b l → Decides (list_any is_refusal l) ((l ≡ limit_answer) ⊎ (l ≡ unbuilt_answer))
 refusal_decided b l a = (refused_is b l a, has_refusal l)
 
--- a front of one more byte than n is longer than n exactly where the whole text is, and else it is all of the text
+-- a front of n + 1 bytes that is longer than n shows that the text is, and one that isn't is all of the text
 front_long : (n : ℕ) (b : Text) → n < length (take (n + 1) b) → n < length b
 front_long n b h = omega (arith, length-take (n + 1) b)
 
 front_all : (n : ℕ) (b : Text) → length (take (n + 1) b) ≤ n → take (n + 1) b ≡ b
-front_all n b h = take_all (n + 1) b (let k : length b ≤ n + 1 = omega (arith, length-take (n + 1) b) in k)
+front_all n b h = take_all (n + 1) b (omega (arith, length-take (n + 1) b))
 
-answer_at : (n : ℕ) (b : Text) (ls : List Text) → n ≡ limit → IsAnswer (take (n + 1) b) ls → IsAnswer b ls
-answer_at n b ls e (over_limit h) = over_limit (let k : n < length b = front_long n b (omega arith) in omega arith)
-answer_at n b ls e (nothing f) = subst (λ c. IsAnswer c (base_line ∷ [])) (front_all n b (let z = ap length f in omega arith)) (nothing f)
-answer_at n b ls e (defined d h i f) = subst (λ c. IsAnswer c (defined_answer d)) (front_all n b (omega arith)) (defined d h i f)
-answer_at n b ls e (unbuilt h u) = subst (λ c. IsAnswer c unbuilt_answer) (front_all n b (omega arith)) (unbuilt h u)
-
+-- one byte past the limit settles the answer
 pub answer_of_front : (b : Text) (ls : List Text) → IsAnswer (take (limit + 1) b) ls → IsAnswer b ls
-answer_of_front b ls a = answer_at limit b ls refl a
+answer_of_front b ls (over_limit h) = over_limit (front_long limit b h)
+answer_of_front b ls (nothing e) = subst (λ c. IsAnswer c nothing_answer) (front_all limit b (let z = ap length e in omega arith)) (nothing e)
+answer_of_front b ls (defined d h i e) = subst (λ c. IsAnswer c (defined_answer d)) (front_all limit b h) (defined d h i e)
+answer_of_front b ls (unbuilt h u) = subst (λ c. IsAnswer c unbuilt_answer) (front_all limit b h) (unbuilt h u)
