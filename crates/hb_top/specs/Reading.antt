@@ -35,38 +35,43 @@ word_at bs = if is_word (take (word_length bs) bs) then Some (take (word_length 
 abbrev pub is_plain_type : Name → Bool
 is_plain_type c = bytes_eq c (codes "bool") || bytes_eq c (codes "ind")
 
+abbrev pub variable_of : Name × Text → Front Ty
+variable_of w = if is_numbered w.0 then None else Some (ty_var w.0, w.1)
+
+abbrev pub plain_of : Name × Text → Front Ty
+plain_of w = if is_plain_type w.0 then Some (ty_app w.0 no_tys, w.1) else None
+
 -- a type variable behind its quote, or else the name of a type
 abbrev pub atom_by : Option Text → Text → Front Ty
-atom_by (Some named) bs = do
-  w ← word_at named
-  if is_numbered w.0 then None else Some (ty_var w.0, w.1)
-atom_by None bs = do
-  w ← word_at bs
-  if is_plain_type w.0 then Some (ty_app w.0 no_tys, w.1) else None
+atom_by (Some named) bs = word_at named >>= variable_of
+atom_by None bs = word_at bs >>= plain_of
 
 unfoldable pub atom_at : Text → Front Ty
 atom_at bs = atom_by (after (codes "'") bs) bs
 
--- the function type to the type that comes next
+-- the function type to a range
+abbrev pub from_domain : Ty → Ty × Text → Front Ty
+from_domain dom ran = Some (fun_ty dom ran.0, ran.1)
+
 abbrev pub to_range : (Text → Front Ty) → Ty → Text → Front Ty
-to_range read dom bs = do
-  ran ← read bs
-  Some (fun_ty dom ran.0, ran.1)
+to_range read dom bs = read bs >>= from_domain dom
 
 -- a type, and the range where an arrow follows
 abbrev pub range_by : (Text → Front Ty) → Ty × Text → Option Text → Front Ty
 range_by read dom None = Some dom
 range_by read dom (Some bs) = to_range read dom.0 bs
 
--- a function type in parentheses and its range, or else a type without arguments and its range
+abbrev pub with_range : (Text → Front Ty) → Ty × Text → Front Ty
+with_range read dom = range_by read dom (after (codes " -> ") dom.1)
+
+-- a function type as a domain, its parenthesis not yet closed
+abbrev pub after_domain : (Text → Front Ty) → Ty × Text → Front Ty
+after_domain read dom = if is_function dom.0 then (after (codes ") -> ") dom.1 >>= to_range read dom.0) else None
+
+-- a function type in parentheses and its range, or else a type without arguments and maybe its range
 abbrev pub type_by : (Text → Front Ty) → Option Text → Text → Front Ty
-type_by read (Some inner) bs = do
-  dom ← read inner
-  next ← after (codes ") -> ") dom.1
-  if is_function dom.0 then to_range read dom.0 next else None
-type_by read None bs = do
-  dom ← atom_at bs
-  range_by read dom (after (codes " -> ") dom.1)
+type_by read (Some inner) bs = read inner >>= after_domain read
+type_by read None bs = atom_at bs >>= with_range read
 
 -- a type that is nested less deep than the number
 unfoldable pub type_at : ℕ → Text → Front Ty
