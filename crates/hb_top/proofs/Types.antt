@@ -196,3 +196,91 @@ pub type_takes : (n : ℕ) (bs : Text) (t : Ty) (r : Text) → type_at n bs ≡ 
 unfolding type_at
 type_takes zero bs t r e = absurd cc
 type_takes (suc n) bs t r e = type_by_takes (type_at n) (λ cs u q. type_takes n cs u q) (after (codes "(") bs) bs t r refl e
+
+-- ---- what stands there is read
+
+-- a text that no type goes on with
+pub record IsEnd (r : Text) : Type 0 where
+  pub word : begins_word r ≡ false
+  pub no_arrow : after (codes " -> ") r ≡ None
+
+abbrev Finds : (Text → Front Ty) → Ty → Type 0
+Finds read t = (r : Text) → IsEnd r → read (ty_text t ++ r) ≡ Some (t, r)
+
+range_again : (read : Text → Front Ty) (dom t : Ty) (r : Text) → Finds read t → IsEnd r → to_range read dom (ty_text t ++ r) ≡ Some (fun_ty dom t, r)
+range_again read dom t r h e = rw (h r e) refl
+
+atom_type_again : (read : Text → Front Ty) (t : Ty) (r : Text) → IsRead t r → IsEnd r → type_by read (after (codes "(") (ty_text t ++ r)) (ty_text t ++ r) ≡ Some (t, r)
+atom_type_again read t r h e = rw (h.bare, h.read, e.no_arrow) refl
+
+bare_again : (read : Text → Front Ty) (a b : Ty) (r : Text) → is_simple a ≡ true → is_function a ≡ false → Finds read b → IsEnd r →
+    type_by read (after (codes "(") (ty_text (fun_ty a b) ++ r)) (ty_text (fun_ty a b) ++ r) ≡ Some (fun_ty a b, r)
+bare_again read a b r s f hb e =
+    let rest : Text = codes " -> " ++ (ty_text b ++ r) in
+    let h = atom_again a rest s f refl in
+    let p : type_by read (after (codes "(") (ty_text a ++ rest)) (ty_text a ++ rest) ≡ Some (fun_ty a b, r) = rw (h.bare, h.read, range_again read a b r hb e) refl in
+    ap (λ (x : Text). type_by read (after (codes "(") x) x) (bare_function a b r f) ∙ p
+
+closed_again : (read : Text → Front Ty) (a b : Ty) (r : Text) → is_function a ≡ true → Finds read a → Finds read b → IsEnd r →
+    type_by read (after (codes "(") (ty_text (fun_ty a b) ++ r)) (ty_text (fun_ty a b) ++ r) ≡ Some (fun_ty a b, r)
+closed_again read a b r f ha hb e =
+    let rest : Text = codes ") -> " ++ (ty_text b ++ r) in
+    let h : read (ty_text a ++ rest) ≡ Some (a, rest) = ha rest (record { word = refl; no_arrow = refl }) in
+    let p : type_by read (Some (ty_text a ++ rest)) (codes "(" ++ (ty_text a ++ rest)) ≡ Some (fun_ty a b, r) = rw (h, f, range_again read a b r hb e) refl in
+    ap (λ (x : Text). type_by read (after (codes "(") x) x) (closed_function a b r f) ∙ p
+
+function_again : (read : Text → Front Ty) (a b : Ty) (r : Text) → is_simple a ≡ true → Finds read a → Finds read b → IsEnd r → (q : Bool) → is_function a ≡ q →
+    type_by read (after (codes "(") (ty_text (fun_ty a b) ++ r)) (ty_text (fun_ty a b) ++ r) ≡ Some (fun_ty a b, r)
+function_again read a b r s ha hb e true f = closed_again read a b r f ha hb e
+function_again read a b r s ha hb e false f = bare_again read a b r s f hb e
+
+-- the reader finds each simple type that is smaller than the number
+abbrev FindsBelow : (Text → Front Ty) → ℕ → Type 0
+FindsBelow read n = (t : Ty) → is_simple t ≡ true → ty_size t ≤ n → Finds read t
+
+applied_again : (read : Text → Front Ty) (n : ℕ) → FindsBelow read n → (c : Name) (ts : Tys) (r : Text) → ty_size (ty_app c ts) ≤ suc n → IsEnd r → Applied c ts →
+    type_by read (after (codes "(") (ty_text (ty_app c ts) ++ r)) (ty_text (ty_app c ts) ++ r) ≡ Some (ty_app c ts, r)
+applied_again read n h c ts r l e (no_argument p q) =
+    let P : Tys → Type 0 = λ us. type_by read (after (codes "(") (ty_text (ty_app c us) ++ r)) (ty_text (ty_app c us) ++ r) ≡ Some (ty_app c us, r) in
+    subst P (sym q) (atom_type_again read (ty_app c no_tys) r (plain_again c r e.word (plain_cases c p)) e)
+applied_again read n h c ts r l e (two_arguments a b sa sb p q) =
+    let size : ty_size (ty_app c (more_tys a (more_tys b no_tys))) ≤ suc n = subst (λ (us : Tys). ty_size (ty_app c us) ≤ suc n) q l in
+    let P : Name → Tys → Type 0 = λ m us. type_by read (after (codes "(") (ty_text (ty_app m us) ++ r)) (ty_text (ty_app m us) ++ r) ≡ Some (ty_app m us, r) in
+    subst (P c) (sym q) (subst (λ (m : Name). P m (more_tys a (more_tys b no_tys))) (sym p) (function_again read a b r sa (h a sa (omega arith)) (h b sb (omega arith)) e (is_function a) refl))
+
+pub type_again : (n : ℕ) (t : Ty) (r : Text) → is_simple t ≡ true → ty_size t ≤ n → IsEnd r → type_at n (ty_text t ++ r) ≡ Some (t, r)
+unfolding type_at
+type_again zero (ty_var c) r s l e = absurd (omega arith)
+type_again zero (ty_app c ts) r s l e = absurd (omega arith)
+type_again (suc n) (ty_var c) r s l e = atom_type_again (type_at n) (ty_var c) r (variable_again c r s e.word) e
+type_again (suc n) (ty_app c ts) r s l e = applied_again (type_at n) n (λ t q k x y. type_again n t x q k y) c ts r l e (applied_is c ts s)
+
+-- ---- a simple type is no larger than its text
+
+parenthesized-length : (q : Bool) (x : Text) → length x ≤ length (parenthesized q x)
+parenthesized-length true x = omega (arith, length-append (codes "(" ++ x) (codes ")"), length-append (codes "(") x)
+parenthesized-length false x = omega arith
+
+function_length : (a b : Ty) → 1 + (length (ty_text a) + length (ty_text b)) ≤ length (ty_text (fun_ty a b))
+function_length a b =
+    let x = parenthesized (is_function a) (ty_text a) in
+    omega (arith, parenthesized-length (is_function a) (ty_text a), length-append (x ++ codes " -> ") (ty_text b), length-append x (codes " -> "))
+
+applied_size : (n : ℕ) → ((t : Ty) → ty_size t ≤ n → is_simple t ≡ true → ty_size t ≤ length (ty_text t)) → (c : Name) (ts : Tys) → ty_size (ty_app c ts) ≤ suc n → Applied c ts → ty_size (ty_app c ts) ≤ length (ty_text (ty_app c ts))
+applied_size n h c ts l (no_argument p q) =
+    let P : Name → Tys → Type 0 = λ m us. ty_size (ty_app m us) ≤ length (ty_text (ty_app m us)) in
+    subst (P c) (sym q) (elim (plain_cases c p) [ inl e ↦ subst (λ (m : Name). P m no_tys) (sym e) (omega arith) | inr e ↦ subst (λ (m : Name). P m no_tys) (sym e) (omega arith) ])
+applied_size n h c ts l (two_arguments a b sa sb p q) =
+    let size : ty_size (ty_app c (more_tys a (more_tys b no_tys))) ≤ suc n = subst (λ (us : Tys). ty_size (ty_app c us) ≤ suc n) q l in
+    let P : Name → Tys → Type 0 = λ m us. ty_size (ty_app m us) ≤ length (ty_text (ty_app m us)) in
+    let here : P fun_name (more_tys a (more_tys b no_tys)) = omega (arith, function_length a b, h a (omega arith) sa, h b (omega arith) sb) in
+    subst (P c) (sym q) (subst (λ (m : Name). P m (more_tys a (more_tys b no_tys))) (sym p) here)
+
+size-text_below : (n : ℕ) (t : Ty) → ty_size t ≤ n → is_simple t ≡ true → ty_size t ≤ length (ty_text t)
+size-text_below zero (ty_var c) l s = omega arith
+size-text_below zero (ty_app c ts) l s = absurd (omega arith)
+size-text_below (suc n) (ty_var c) l s = omega arith
+size-text_below (suc n) (ty_app c ts) l s = applied_size n (λ t k q. size-text_below n t k q) c ts l (applied_is c ts s)
+
+pub size-text : (t : Ty) → is_simple t ≡ true → ty_size t ≤ length (ty_text t)
+size-text t s = size-text_below (ty_size t) t (omega arith) s
