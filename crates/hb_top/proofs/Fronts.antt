@@ -19,6 +19,10 @@ pub bind_some : {A B : Type 0} (o : Option A) (f : A → Option B) (y : B) → (
 bind_some None f y e = absurd cc
 bind_some (Some x) f y e = (x, refl, e)
 
+pub when_some : {A B : Type 0} {P : Type 0} (o : Option A) (f : A → Option B) (y : B) → (o >>= f) ≡ Some y → ((x : A) → o ≡ Some x → f x ≡ Some y → P) → P
+when_some None f y e k = absurd cc
+when_some (Some x) f y e k = k x refl e
+
 -- a test that held
 pub none_unless : {A : Type 0} (b : Bool) (o : Option A) (y : A) → cond b o None ≡ Some y → (b ≡ true) × (o ≡ Some y)
 none_unless true o y e = (refl, e)
@@ -28,7 +32,7 @@ pub none_if : {A : Type 0} (b : Bool) (o : Option A) (y : A) → cond b None o �
 none_if true o y e = absurd cc
 none_if false o y e = (refl, e)
 
-abbrev some : {A : Type 0} → A → Option A
+abbrev pub some : {A : Type 0} → A → Option A
 some x = Some x
 
 pub same_some : {A : Type 0} (x y : A) → some x ≡ some y → x ≡ y

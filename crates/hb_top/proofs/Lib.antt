@@ -1,3 +1,4 @@
 pub mod Fronts
 
 pub mod Types
+pub mod Commands

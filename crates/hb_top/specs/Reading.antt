@@ -6,7 +6,7 @@ use Rattle.hol_terms.specs.Ty.{Ty, ty_var, ty_app, no_tys}
 use Rattle.hol_terms.specs.Tm.{FreeVar}
 use Rattle.hol_terms.specs.Typing.{tm_type, fun_ty}
 use Rattle.hol_terms.specs.Text.{Text, is_function}
-use Rattle.hb_top.specs.Command.{is_word, is_word_character}
+use Rattle.hb_top.specs.Command.{Define, is_word, is_word_character}
 
 infixl 10 ◌>>=◌
 abbrev pub ◌>>=◌ : {A B : Type 0} → Option A → (A → Option B) → Option B
@@ -77,3 +77,37 @@ type_by read None bs = atom_at bs >>= with_range read
 unfoldable pub type_at : ℕ → Text → Front Ty
 type_at zero bs = None
 type_at (suc n) bs = type_by (type_at n) (after (codes "(") bs) bs
+
+-- a binder behind its `\`
+unfoldable pub binder_at : ℕ → Text → Front FreeVar
+binder_at n bs = do
+  name ← word_at bs
+  typed ← after (codes ":") name.1
+  ty ← type_at n typed
+  rest ← after (codes ". ") ty.1
+  if is_keyword name.0 then None else Some (record { name = name.0; ty = ty.0 }, rest)
+
+abbrev pub binders_by : (Text → Front FreeVar) → (Text → Front (List FreeVar)) → Option Text → Text → Front (List FreeVar)
+binders_by read others None bs = Some ([], bs)
+binders_by read others (Some named) bs = do
+  v ← read named
+  vs ← others v.1
+  Some (v.0 ∷ vs.0, vs.1)
+
+-- fewer binders than the second number, of types that are nested less deep than the first
+unfoldable pub binders_at : ℕ → ℕ → Text → Front (List FreeVar)
+binders_at m zero bs = None
+binders_at m (suc n) bs = binders_by (binder_at m) (binders_at m n) (after (codes "\\") bs) bs
+
+-- the parts of a command
+unfoldable pub parts_at : ℕ → Text → Option Define
+parts_at n bs = do
+  named ← after (codes "define ") bs
+  name ← word_at named
+  typed ← after (codes " : ") name.1
+  ty ← type_at n typed
+  bound ← after (codes " = ") ty.1
+  binders ← binders_at n n bound
+  last ← word_at binders.1
+  end ← after (codes ";") last.1
+  if length end == 0 then Some (record { name = name.0; ty = ty.0; binders = binders.0; last = last.0 }) else None
