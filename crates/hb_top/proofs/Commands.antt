@@ -19,7 +19,7 @@ pub record IsBinderAt (bs : Text) (v : FreeVar) (r : Text) : Type 0 where
   pub text : codes "\\" ++ bs ≡ binder_text v ++ r
   pub meets : is_binder v ≡ true
 
-binder_text-parts : (v : FreeVar) (r : Text) → binder_text v ++ r ≡ codes "\\" ++ (v.name ++ (codes ":" ++ (ty_text v.ty ++ (codes ". " ++ r))))
+pub binder_text-parts : (v : FreeVar) (r : Text) → binder_text v ++ r ≡ codes "\\" ++ (v.name ++ (codes ":" ++ (ty_text v.ty ++ (codes ". " ++ r))))
 binder_text-parts v r = simp append_assoc
 
 binder_joined : (name : Name × Text) (ty : Ty × Text) (bs typed : Text) (v : FreeVar) (rest r : Text) →
@@ -86,7 +86,7 @@ pub record IsTextOf (bs : Text) (d : Define) : Type 0 where
   pub text : bs ≡ define_text d
   pub written : IsWritten d
 
-define_text-parts : (d : Define) → define_text d ≡ codes "define " ++ (d.name ++ (codes " : " ++ (ty_text d.ty ++ (codes " = " ++ (flat_map binder_text d.binders ++ (d.last ++ codes ";"))))))
+pub define_text-parts : (d : Define) → define_text d ≡ codes "define " ++ (d.name ++ (codes " : " ++ (ty_text d.ty ++ (codes " = " ++ (flat_map binder_text d.binders ++ (d.last ++ codes ";"))))))
 define_text-parts d = simp append_assoc
 
 nothing_left : (bs : Text) → (length bs == 0) ≡ true → bs ≡ []

@@ -2,3 +2,4 @@ pub mod Fronts
 
 pub mod Types
 pub mod Commands
+pub mod Written
