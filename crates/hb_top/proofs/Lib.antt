@@ -3,3 +3,4 @@ pub mod Fronts
 pub mod Types
 pub mod Commands
 pub mod Written
+pub mod Words

@@ -1,2 +1,4 @@
 //! The calls of the program `hbnf`, from words and bytes to lines and a status.
 #![tactic(auto)]
+
+mod read;

@@ -1,0 +1,125 @@
+//! Reads a `define` command.
+
+ghost use Rattle.std.specs.Prelude.{◌≡◌, ◌||◌, ◌==◌, codes};
+ghost use Rattle.std.specs.Char.{is_ascii_alphabetic, is_ascii_digit};
+ghost use Rattle.std.specs.List.{list_all};
+ghost use Rattle.std.specs.Option.{option_copied};
+ghost use Rattle.hol_terms.specs.Name.{is_keyword, is_numbered};
+ghost use Rattle.hb_top.specs.Command.{is_word, is_word_character};
+ghost use Rattle.hb_top.specs.Reading.{after, word_length, word_at, atom_at, type_at};
+ghost use Rattle.hb_top.specs.Reads.{Gives};
+ghost use Rattle.hb_top.specs.declared.read.ReadError.TheVariants.{Memory};
+
+use hol_terms::types::HolType;
+use std::alloc::{AllocError, AllocFailed, Global};
+
+/// Why no command was read.
+#[derive(Debug, Drop)]
+enum ReadError {
+    Memory,
+    Refused,
+}
+
+impl From<AllocError> for ReadError {
+    ghost from_gives = { λ _ e. e ≡ Memory };
+
+    fn from(_e: AllocError) -> ReadError {
+        ReadError::Memory
+    }
+}
+
+impl<T: Drop> From<AllocFailed<T>> for ReadError {
+    ghost from_gives = { λ _ e. e ≡ Memory };
+
+    fn from(_e: AllocFailed<T>) -> ReadError {
+        ReadError::Memory
+    }
+}
+
+/// What follows `front` in `bytes`.
+#[tactic(auto, using(crate::proofs::Words::strip_is))]
+fn strip<'a>(bytes: &'a [u8], front: &[u8]) -> Option<&'a [u8]>
+    ensures { option_copied result ≡ after front.now bytes.now }
+{
+    bytes.strip_prefix(front)
+}
+
+/// What follows `front`, which has to stand there.
+fn skip<'a>(bytes: &'a [u8], front: &[u8]) -> Result<&'a [u8], ReadError>
+    ensures { Gives (λ x. x.now) result (after front.now bytes.now) }
+{
+    match strip(bytes, front) {
+        Some(rest) => Ok(rest),
+        None => Err(ReadError::Refused),
+    }
+}
+
+fn is_word_character(c: u8) -> bool
+    ensures { result ≡ is_word_character c }
+{
+    c.is_ascii_alphanumeric() || c == b'_'
+}
+
+fn word_length(bytes: &[u8]) -> usize
+    ensures { result ≡ word_length bytes.now }
+{
+    bytes.iter().take_while(|c| is_word_character(**c)).count()
+}
+
+fn may_begin_word(c: u8) -> bool
+    ensures { result ≡ (is_ascii_alphabetic c || (c == 95)) }
+{
+    c.is_ascii_alphabetic() || c == b'_'
+}
+
+fn are_word_characters(bytes: &[u8]) -> bool
+    ensures { result ≡ list_all is_word_character bytes.now }
+{
+    bytes.iter().all(|c| is_word_character(*c))
+}
+
+fn is_word(word: &[u8]) -> bool
+    ensures { result ≡ is_word word.now }
+{
+    match word {
+        [] => false,
+        [first, others @ ..] => may_begin_word(*first) && are_word_characters(others),
+    }
+}
+
+/// The word in front, and what follows it.
+#[tactic(auto, using(crate::proofs::Words::word_lemmas), unfolding(crate::specs::Reading::word_at))]
+fn word_at(bytes: &[u8]) -> Result<(&str, &[u8]), ReadError>
+    ensures { Gives (λ x. (x.0.now, x.1.now)) result (word_at bytes.now) }
+{
+    let (front, rest) = bytes.split_at(word_length(bytes));
+    if !is_word(front) {
+        return Err(ReadError::Refused);
+    }
+    match str::from_utf8(front) {
+        Ok(word) => Ok((word, rest)),
+        Err(_) => Err(ReadError::Refused),
+    }
+}
+
+fn are_digits(bytes: &[u8]) -> bool
+    ensures { result ≡ list_all is_ascii_digit bytes.now }
+{
+    bytes.iter().all(|c| c.is_ascii_digit())
+}
+
+/// Whether the name is `x` and digits.
+fn is_numbered(name: &str) -> bool
+    ensures { result ≡ is_numbered name.now }
+{
+    match name.as_bytes() {
+        [] | [_] => false,
+        [first, digits @ ..] => *first == b'x' && are_digits(digits),
+    }
+}
+
+fn is_keyword(name: &str) -> bool
+    ensures { result ≡ is_keyword name.now }
+{
+    matches!(name, "define" | "datatype" | "codatatype" | "primrec" | "primcorec" | "where" | "and")
+}
