@@ -4,3 +4,4 @@ pub mod Types
 pub mod Commands
 pub mod Written
 pub mod Words
+pub mod Steps

@@ -6,7 +6,7 @@ use Rattle.std.specs.Option.{option_copied}
 use Rattle.std.specs.List.{prefix_len, list_all}
 use Rattle.std.specs.Str.{IsUtf8, IsAscii}
 use Rattle.std.proofs.lemmas.Bool.{true≢false, and_parts}
-use Rattle.std.proofs.lemmas.Bool.Decides.{Decides-eqb}
+use Rattle.std.proofs.lemmas.Bool.Decides.{Decides-eqb, nat_tests}
 use Rattle.std.proofs.lemmas.Slice.Eq.{strip_prefix_is}
 use Rattle.std.proofs.lemmas.Str.{IsUtf8-from_ascii}
 use Rattle.std.proofs.lemmas.Str.Ascii.{IsAscii-nil, IsAscii-cons}
@@ -42,7 +42,7 @@ prefix_within p (x ∷ xs) = at (prefix_within p xs) (p x)
 -- ---- words are ASCII
 
 ascii_character : (c : ℕ) → is_word_character c ≡ true → c < 128
-ascii_character c e = ?
+ascii_character c e = grind (arith, nat_tests)
 
 pub ascii_all : (w : Text) → list_all is_word_character w ≡ true → IsAscii w
 ascii_all [] e = IsAscii-nil

@@ -41,10 +41,16 @@ variable_of w = if is_numbered w.0 then None else Some (ty_var w.0, w.1)
 abbrev pub plain_of : Name × Text → Front Ty
 plain_of w = if is_plain_type w.0 then Some (ty_app w.0 no_tys, w.1) else None
 
+abbrev pub variable_at : Text → Front Ty
+variable_at bs = word_at bs >>= variable_of
+
+abbrev pub plain_at : Text → Front Ty
+plain_at bs = word_at bs >>= plain_of
+
 -- a type variable behind its quote, or else the name of a type
 abbrev pub atom_by : Option Text → Text → Front Ty
-atom_by (Some named) bs = word_at named >>= variable_of
-atom_by None bs = word_at bs >>= plain_of
+atom_by (Some named) bs = variable_at named
+atom_by None bs = plain_at bs
 
 unfoldable pub atom_at : Text → Front Ty
 atom_at bs = atom_by (after (codes "'") bs) bs

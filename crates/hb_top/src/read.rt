@@ -5,12 +5,13 @@ ghost use Rattle.std.specs.Char.{is_ascii_alphabetic, is_ascii_digit};
 ghost use Rattle.std.specs.List.{list_all};
 ghost use Rattle.std.specs.Option.{option_copied};
 ghost use Rattle.hol_terms.specs.Name.{is_keyword, is_numbered};
+ghost use Rattle.hol_terms.specs.Text.{is_function};
 ghost use Rattle.hb_top.specs.Command.{is_word, is_word_character};
-ghost use Rattle.hb_top.specs.Reading.{after, word_length, word_at, atom_at, type_at};
+ghost use Rattle.hb_top.specs.Reading.{after, word_length, word_at, is_plain_type, variable_at, plain_at, atom_at, type_at};
 ghost use Rattle.hb_top.specs.Reads.{Gives};
 ghost use Rattle.hb_top.specs.declared.read.ReadError.TheVariants.{Memory};
 
-use hol_terms::types::HolType;
+use hol_terms::types::{HolType, TypeNode};
 use std::alloc::{AllocError, AllocFailed, Global};
 
 /// Why no command was read.
@@ -122,4 +123,85 @@ fn is_keyword(name: &str) -> bool
     ensures { result ≡ is_keyword name.now }
 {
     matches!(name, "define" | "datatype" | "codatatype" | "primrec" | "primcorec" | "where" | "and")
+}
+
+fn is_plain_type(name: &str) -> bool
+    ensures { result ≡ is_plain_type name.now }
+{
+    name == "bool" || name == "ind"
+}
+
+/// A type variable, behind its quote.
+fn variable_at<'a>(alloc: Global, named: &'a [u8]) -> Result<(HolType, &'a [u8]), ReadError>
+    ensures { Gives (λ x. (x.0, x.1.now)) result (variable_at named.now) }
+{
+    let (name, rest) = word_at(named)?;
+    if is_numbered(name) {
+        return Err(ReadError::Refused);
+    }
+    Ok((HolType::var(alloc, name)?, rest))
+}
+
+/// A type without arguments.
+fn plain_at<'a>(alloc: Global, bytes: &'a [u8]) -> Result<(HolType, &'a [u8]), ReadError>
+    ensures { Gives (λ x. (x.0, x.1.now)) result (plain_at bytes.now) }
+{
+    let (name, rest) = word_at(bytes)?;
+    if !is_plain_type(name) {
+        return Err(ReadError::Refused);
+    }
+    Ok((HolType::app(alloc, name, &[])?, rest))
+}
+
+#[tactic(auto, unfolding(crate::specs::Reading::atom_at))]
+fn atom_at<'a>(alloc: Global, bytes: &'a [u8]) -> Result<(HolType, &'a [u8]), ReadError>
+    ensures { Gives (λ x. (x.0, x.1.now)) result (atom_at bytes.now) }
+{
+    match strip(bytes, b"'") {
+        Some(named) => variable_at(alloc, named),
+        None => plain_at(alloc, bytes),
+    }
+}
+
+/// Whether it is a function type.
+#[tactic(auto, using(crate::proofs::Steps::function_node))]
+fn is_function(t: &HolType) -> bool
+    ensures { result ≡ is_function t.now }
+{
+    match t.view() {
+        TypeNode::Var(_) => false,
+        TypeNode::App(name, args) => name == "fun" && args.len() == 2,
+    }
+}
+
+/// The type in front that is nested less deep than `fuel`.
+#[tactic(auto, using(crate::proofs::Steps::type_step, crate::proofs::Steps::type_none))]
+fn type_at<'a>(alloc: Global, fuel: usize, bytes: &'a [u8]) -> Result<(HolType, &'a [u8]), ReadError>
+    ensures { Gives (λ x. (x.0, x.1.now)) result (type_at fuel bytes.now) }
+{
+    if fuel == 0 {
+        return Err(ReadError::Refused);
+    }
+    let fuel = fuel - 1;
+    match strip(bytes, b"(") {
+        Some(inner) => {
+            let (dom, rest) = type_at(alloc, fuel, inner)?;
+            if !is_function(&dom) {
+                return Err(ReadError::Refused);
+            }
+            let rest = skip(rest, b") -> ")?;
+            let (ran, rest) = type_at(alloc, fuel, rest)?;
+            Ok((HolType::fun(alloc, &dom, &ran)?, rest))
+        }
+        None => {
+            let (dom, rest) = atom_at(alloc, bytes)?;
+            match strip(rest, b" -> ") {
+                Some(rest) => {
+                    let (ran, rest) = type_at(alloc, fuel, rest)?;
+                    Ok((HolType::fun(alloc, &dom, &ran)?, rest))
+                }
+                None => Ok((dom, rest)),
+            }
+        }
+    }
 }
