@@ -10,7 +10,7 @@ use Rattle.hol_terms.specs.Tm.{FreeVar}
 use Rattle.hol_terms.specs.Text.{Text, ty_text}
 use Rattle.hb_top.specs.Command.{Define, IsDefine, define_text, binder_text, is_binder, is_word, is_simple}
 use Rattle.hb_top.specs.Reading.{◌>>=◌, Front, after, word_at, type_at, binder_at, binders_by, binders_at, parts_at}
-use Rattle.hb_top.proofs.Fronts.{some, when_some, bind_some, none_unless, none_if, same_some, after_takes, after_again, begins_word, word_takes, word_again}
+use Rattle.hb_top.proofs.FrontLemmas.{some, when_some, bind_some, none_unless, none_if, same_some, after_takes, after_again, begins_word, word_takes, word_again}
 use Rattle.hb_top.proofs.Types.{IsType, type_takes, IsEnd, type_again, size-text}
 
 -- ---- binders

@@ -1,4 +1,4 @@
-pub mod Fronts
+pub mod FrontLemmas
 
 pub mod Types
 pub mod Commands

@@ -11,7 +11,7 @@ use Rattle.hol_terms.specs.Signature.{tys_count}
 use Rattle.hol_terms.specs.Text.{Text, ty_text, is_function, parenthesized}
 use Rattle.hb_top.specs.Command.{is_word, is_simple, are_simple, is_start_type}
 use Rattle.hb_top.specs.Reading.{◌>>=◌, Front, after, word_at, is_plain_type, variable_of, plain_of, atom_by, atom_at, from_domain, to_range, range_by, with_range, after_domain, type_by, type_at}
-use Rattle.hb_top.proofs.Fronts.{bind_some, none_unless, none_if, same_some, after_takes, after_again, begins_word, word_takes, word_again}
+use Rattle.hb_top.proofs.FrontLemmas.{bind_some, none_unless, none_if, same_some, after_takes, after_again, begins_word, word_takes, word_again}
 
 pub same_name : (a b : Name) → bytes_eq a b ≡ true → a ≡ b
 same_name a b e = (bytes_eq-Decides a b).0 e

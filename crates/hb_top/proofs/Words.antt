@@ -14,7 +14,7 @@ use Rattle.hol_terms.specs.Name.{Name}
 use Rattle.hol_terms.specs.Text.{Text}
 use Rattle.hb_top.specs.Command.{is_word, is_word_character}
 use Rattle.hb_top.specs.Reading.{after, word_length, word_at}
-use Rattle.hb_top.proofs.Fronts.{after_takes, after_again, is_word-all}
+use Rattle.hb_top.proofs.FrontLemmas.{after_takes, after_again, is_word-all}
 
 after_none : (p bs : Text) → ((rest : Text) → bs ≢ p ++ rest) → after p bs ≡ None
 after_none p bs h = at (after p bs) refl

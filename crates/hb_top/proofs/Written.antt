@@ -11,7 +11,7 @@ use Rattle.hol_terms.specs.Tm.{FreeVar}
 use Rattle.hol_terms.specs.Text.{Text, ty_text}
 use Rattle.hb_top.specs.Command.{Define, IsDefine, define_text, binder_text, is_binder, is_word, is_word_character, is_simple, innermost, or_else, is_known}
 use Rattle.hb_top.specs.Reading.{◌>>=◌, Front, after, word_at, type_at, binder_at, binders_by, binders_at, parts_at}
-use Rattle.hb_top.proofs.Fronts.{some, same_some, begins_word, word_again, is_word-all}
+use Rattle.hb_top.proofs.FrontLemmas.{some, same_some, begins_word, word_again, is_word-all}
 use Rattle.hb_top.proofs.Types.{IsEnd, type_again, size-text, same_name}
 use Rattle.hb_top.proofs.Commands.{binder_text-parts, define_text-parts, IsWritten}
 

@@ -1,12 +1,15 @@
 -- Reading a command from left to right. What is read is the front of a text, and the rest is handed on.
 use Rattle.std.specs.Prelude.{ℕ, zero, suc, Bool, true, false, not, ◌&&◌, ◌||◌, ◌==◌, List, [], ◌∷◌, take, drop, length, Option, Some, None, if◌then◌else◌, bytes_eq, codes}
 use Rattle.std.specs.List.{prefix_len, list_all}
+use Rattle.std.specs.Ordering.{is_eq}
 use Rattle.hol_terms.specs.Name.{Name, is_keyword, is_numbered}
 use Rattle.hol_terms.specs.Ty.{Ty, ty_var, ty_app, no_tys}
-use Rattle.hol_terms.specs.Tm.{FreeVar}
+use Rattle.hol_terms.specs.Tm.{Tm, FreeVar}
+use Rattle.hol_terms.specs.Subst.{ty_cmp}
+use Rattle.hol_terms.specs.Signature.{Signature, is_new}
 use Rattle.hol_terms.specs.Typing.{tm_type, fun_ty}
 use Rattle.hol_terms.specs.Text.{Text, is_function}
-use Rattle.hb_top.specs.Command.{Define, is_word, is_word_character}
+use Rattle.hb_top.specs.Command.{Define, is_word, is_word_character, is_reserved, innermost, meaning_of, is_known, term_of}
 
 infixl 10 ◌>>=◌
 abbrev pub ◌>>=◌ : {A B : Type 0} → Option A → (A → Option B) → Option B
@@ -117,3 +120,22 @@ parts_at n bs = do
   last ← word_at binders.1
   end ← after (codes ";") last.1
   if length end == 0 then Some (record { name = name.0; ty = ty.0; binders = binders.0; last = last.0 }) else None
+
+-- a name that a command may define
+abbrev pub may_define : Signature → Name → Bool
+may_define s n = not (is_keyword n || is_reserved n) && is_new s n
+
+-- what a last name stands for, if it stands for anything
+abbrev pub leaf_of : Option FreeVar → Name → Option Tm
+leaf_of v n = if is_known v n then Some (meaning_of v n) else None
+
+-- the parts are those of a command
+abbrev pub meets : Signature → Define → Bool
+meets s d = may_define s d.name && is_known (innermost d.last d.binders) d.last && is_eq (ty_cmp (tm_type (term_of d)) d.ty)
+
+abbrev pub if_meets : Signature → Define → Option Define
+if_meets s d = if meets s d then Some d else None
+
+-- the command that the text is
+unfoldable pub command_at : Signature → Text → Option Define
+command_at s bs = parts_at (length bs) bs >>= if_meets s

@@ -1,4 +1,5 @@
 //! The calls of the program `hbnf`, from words and bytes to lines and a status.
 #![tactic(auto)]
 
+mod fronts;
 mod read;

@@ -1,207 +1,99 @@
 //! Reads a `define` command.
 
-ghost use Rattle.std.specs.Prelude.{◌≡◌, ◌||◌, ◌==◌, codes};
-ghost use Rattle.std.specs.Char.{is_ascii_alphabetic, is_ascii_digit};
-ghost use Rattle.std.specs.List.{list_all};
-ghost use Rattle.std.specs.Option.{option_copied};
-ghost use Rattle.hol_terms.specs.Name.{is_keyword, is_numbered};
-ghost use Rattle.hol_terms.specs.Text.{is_function};
-ghost use Rattle.hb_top.specs.Command.{is_word, is_word_character};
-ghost use Rattle.hb_top.specs.Reading.{after, word_length, word_at, is_plain_type, variable_at, plain_at, atom_at, type_at};
-ghost use Rattle.hb_top.specs.Reads.{Gives};
-ghost use Rattle.hb_top.specs.declared.read.ReadError.TheVariants.{Memory};
+ghost use Rattle.std.specs.Prelude.{◌≡◌, IfOk, MatchOption, string_bytes};
+ghost use Rattle.std.specs.Option.{option_copied, option_map};
+ghost use Rattle.std.specs.Ordering.{is_eq};
+ghost use Rattle.hol_terms.specs.Subst.{ty_cmp};
+ghost use Rattle.hol_terms.specs.Typing.{tm_type};
+ghost use Rattle.hol_terms.specs.Loose.{IsClosedAt};
+ghost use Rattle.hol_terms.specs.Signature.{is_new};
+ghost use Rattle.hol_terms.specs.Definition.{signature_of};
+ghost use Rattle.hol_terms.specs.Base.{base};
+ghost use Rattle.hb_top.specs.Command.{innermost, lambdas};
+ghost use Rattle.hb_top.specs.Reading.{binder_at, binders_at, parts_at, may_define, leaf_of, command_at};
+ghost use Rattle.hb_top.specs.Reads.{Gives, IsNoDefine, Reads, written, meaning};
 
-use hol_terms::types::{HolType, TypeNode};
-use std::alloc::{AllocError, AllocFailed, Global};
+use crate::fronts::{ReadError, skip, strip, type_at, word_at};
+use hol_terms::names::{is_keyword, is_numbered};
+use hol_terms::sig::Sig;
+use hol_terms::terms::{Term, Var};
+use hol_terms::types::HolType;
+use std::alloc::{AllocError, Global};
+use std::cmp::Ordering;
 
-/// Why no command was read.
-#[derive(Debug, Drop)]
-enum ReadError {
-    Memory,
-    Refused,
+/// A `define` command as it was read: the new name, and the term that it names.
+#[derive(Drop)]
+pub(crate) struct DefineCommand {
+    pub(crate) name: String,
+    pub(crate) body: Term,
 }
 
-impl From<AllocError> for ReadError {
-    ghost from_gives = { λ _ e. e ≡ Memory };
-
-    fn from(_e: AllocError) -> ReadError {
-        ReadError::Memory
-    }
+/// The parts of a command as they were written.
+#[derive(Drop)]
+struct Parts {
+    name: String,
+    ty: HolType,
+    binders: Vec<Var>,
+    last: String,
 }
 
-impl<T: Drop> From<AllocFailed<T>> for ReadError {
-    ghost from_gives = { λ _ e. e ≡ Memory };
-
-    fn from(_e: AllocFailed<T>) -> ReadError {
-        ReadError::Memory
-    }
-}
-
-/// What follows `front` in `bytes`.
-#[tactic(auto, using(crate::proofs::Words::strip_is))]
-fn strip<'a>(bytes: &'a [u8], front: &[u8]) -> Option<&'a [u8]>
-    ensures { option_copied result ≡ after front.now bytes.now }
-{
-    bytes.strip_prefix(front)
-}
-
-/// What follows `front`, which has to stand there.
-fn skip<'a>(bytes: &'a [u8], front: &[u8]) -> Result<&'a [u8], ReadError>
-    ensures { Gives (λ x. x.now) result (after front.now bytes.now) }
-{
-    match strip(bytes, front) {
-        Some(rest) => Ok(rest),
-        None => Err(ReadError::Refused),
-    }
-}
-
-fn is_word_character(c: u8) -> bool
-    ensures { result ≡ is_word_character c }
-{
-    c.is_ascii_alphanumeric() || c == b'_'
-}
-
-fn word_length(bytes: &[u8]) -> usize
-    ensures { result ≡ word_length bytes.now }
-{
-    bytes.iter().take_while(|c| is_word_character(**c)).count()
-}
-
-fn may_begin_word(c: u8) -> bool
-    ensures { result ≡ (is_ascii_alphabetic c || (c == 95)) }
-{
-    c.is_ascii_alphabetic() || c == b'_'
-}
-
-fn are_word_characters(bytes: &[u8]) -> bool
-    ensures { result ≡ list_all is_word_character bytes.now }
-{
-    bytes.iter().all(|c| is_word_character(*c))
-}
-
-fn is_word(word: &[u8]) -> bool
-    ensures { result ≡ is_word word.now }
-{
-    match word {
-        [] => false,
-        [first, others @ ..] => may_begin_word(*first) && are_word_characters(others),
-    }
-}
-
-/// The word in front, and what follows it.
-#[tactic(auto, using(crate::proofs::Words::word_lemmas), unfolding(crate::specs::Reading::word_at))]
-fn word_at(bytes: &[u8]) -> Result<(&str, &[u8]), ReadError>
-    ensures { Gives (λ x. (x.0.now, x.1.now)) result (word_at bytes.now) }
-{
-    let (front, rest) = bytes.split_at(word_length(bytes));
-    if !is_word(front) {
-        return Err(ReadError::Refused);
-    }
-    match str::from_utf8(front) {
-        Ok(word) => Ok((word, rest)),
-        Err(_) => Err(ReadError::Refused),
-    }
-}
-
-fn are_digits(bytes: &[u8]) -> bool
-    ensures { result ≡ list_all is_ascii_digit bytes.now }
-{
-    bytes.iter().all(|c| c.is_ascii_digit())
-}
-
-/// Whether the name is `x` and digits.
-fn is_numbered(name: &str) -> bool
-    ensures { result ≡ is_numbered name.now }
-{
-    match name.as_bytes() {
-        [] | [_] => false,
-        [first, digits @ ..] => *first == b'x' && are_digits(digits),
-    }
-}
-
-fn is_keyword(name: &str) -> bool
-    ensures { result ≡ is_keyword name.now }
-{
-    matches!(name, "define" | "datatype" | "codatatype" | "primrec" | "primcorec" | "where" | "and")
-}
-
-fn is_plain_type(name: &str) -> bool
-    ensures { result ≡ is_plain_type name.now }
-{
-    name == "bool" || name == "ind"
-}
-
-/// A type variable, behind its quote.
-fn variable_at<'a>(alloc: Global, named: &'a [u8]) -> Result<(HolType, &'a [u8]), ReadError>
-    ensures { Gives (λ x. (x.0, x.1.now)) result (variable_at named.now) }
-{
-    let (name, rest) = word_at(named)?;
-    if is_numbered(name) {
-        return Err(ReadError::Refused);
-    }
-    Ok((HolType::var(alloc, name)?, rest))
-}
-
-/// A type without arguments.
-fn plain_at<'a>(alloc: Global, bytes: &'a [u8]) -> Result<(HolType, &'a [u8]), ReadError>
-    ensures { Gives (λ x. (x.0, x.1.now)) result (plain_at bytes.now) }
+/// A binder behind its `\`.
+#[tactic(auto, unfolding(crate::specs::Reading::binder_at))]
+fn binder_at<'a>(
+    alloc: Global,
+    fuel: usize,
+    bytes: &'a [u8],
+) -> Result<(Var, &'a [u8]), ReadError>
+    ensures { Gives (λ x. (x.0, x.1.now)) result (binder_at fuel bytes.now) }
 {
     let (name, rest) = word_at(bytes)?;
-    if !is_plain_type(name) {
+    let rest = skip(rest, b":")?;
+    let (ty, rest) = type_at(alloc, fuel, rest)?;
+    let rest = skip(rest, b". ")?;
+    if is_keyword(name) {
         return Err(ReadError::Refused);
     }
-    Ok((HolType::app(alloc, name, &[])?, rest))
+    Ok((Var::new(alloc, name, &ty)?, rest))
 }
 
-#[tactic(auto, unfolding(crate::specs::Reading::atom_at))]
-fn atom_at<'a>(alloc: Global, bytes: &'a [u8]) -> Result<(HolType, &'a [u8]), ReadError>
-    ensures { Gives (λ x. (x.0, x.1.now)) result (atom_at bytes.now) }
+fn is_new(sig: &Sig, name: &str) -> bool
+    ensures { result ≡ is_new sig.now name.now }
 {
-    match strip(bytes, b"'") {
-        Some(named) => variable_at(alloc, named),
-        None => plain_at(alloc, bytes),
-    }
+    sig.arity(name).is_none() && sig.generic(name).is_none()
 }
 
-/// Whether it is a function type.
-#[tactic(auto, using(crate::proofs::Steps::function_node))]
-fn is_function(t: &HolType) -> bool
-    ensures { result ≡ is_function t.now }
+fn may_define(sig: &Sig, name: &str) -> bool
+    ensures { result ≡ may_define sig.now name.now }
 {
-    match t.view() {
-        TypeNode::Var(_) => false,
-        TypeNode::App(name, args) => name == "fun" && args.len() == 2,
-    }
+    !is_keyword(name) && name != "plugin" && !is_numbered(name) && is_new(sig, name)
 }
 
-/// The type in front that is nested less deep than `fuel`.
-#[tactic(auto, using(crate::proofs::Steps::type_step, crate::proofs::Steps::type_none))]
-fn type_at<'a>(alloc: Global, fuel: usize, bytes: &'a [u8]) -> Result<(HolType, &'a [u8]), ReadError>
-    ensures { Gives (λ x. (x.0, x.1.now)) result (type_at fuel bytes.now) }
+fn has_type(t: &Term, ty: &HolType) -> bool
+    ensures { result ≡ is_eq (ty_cmp (tm_type t.now) ty.now) }
 {
-    if fuel == 0 {
-        return Err(ReadError::Refused);
-    }
-    let fuel = fuel - 1;
-    match strip(bytes, b"(") {
-        Some(inner) => {
-            let (dom, rest) = type_at(alloc, fuel, inner)?;
-            if !is_function(&dom) {
-                return Err(ReadError::Refused);
-            }
-            let rest = skip(rest, b") -> ")?;
-            let (ran, rest) = type_at(alloc, fuel, rest)?;
-            Ok((HolType::fun(alloc, &dom, &ran)?, rest))
-        }
-        None => {
-            let (dom, rest) = atom_at(alloc, bytes)?;
-            match strip(rest, b" -> ") {
-                Some(rest) => {
-                    let (ran, rest) = type_at(alloc, fuel, rest)?;
-                    Ok((HolType::fun(alloc, &dom, &ran)?, rest))
-                }
-                None => Ok((dom, rest)),
-            }
+    matches!(t.type_of().cmp(ty), Ordering::Equal)
+}
+
+/// The innermost binder of the name.
+fn innermost<'a>(name: &str, binders: &'a [Var]) -> Option<&'a Var>
+    ensures { option_copied result ≡ innermost name.now binders.now }
+{
+    for binder in binders.iter().rev() {
+        if binder.name() == name {
+            return Some(binder);
         }
     }
+    None
+}
+
+/// The abstraction over each of the variables, the first outermost.
+fn abstraction(alloc: Global, binders: &[Var], body: Term) -> Result<Term, AllocError>
+    requires { IsClosedAt 0 body }
+    ensures { IfOk result (λ t. t ≡ lambdas binders.now body) }
+{
+    let mut whole = body;
+    for i in (0..binders.len()).rev() {
+        whole = Term::mk_abs(alloc, &binders[i], &whole)?;
+    }
+    Ok(whole)
 }

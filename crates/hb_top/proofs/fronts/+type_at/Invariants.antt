@@ -1,4 +1,4 @@
-use Rattle.hb_top.proofs.read.+type_at.Given as goal
+use Rattle.hb_top.proofs.fronts.+type_at.Given as goal
 
 abbrev pub decreases-type_at : goal.decreases-type_at
 decreases-type_at l = l.fuel
