@@ -5,3 +5,4 @@ pub mod Commands
 pub mod Written
 pub mod Words
 pub mod Steps
+pub mod Binders

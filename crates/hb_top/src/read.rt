@@ -75,18 +75,21 @@ fn has_type(t: &Term, ty: &HolType) -> bool
 }
 
 /// The innermost binder of the name.
+#[tactic(auto, using(crate::proofs::Binders::innermost_more))]
 fn innermost<'a>(name: &str, binders: &'a [Var]) -> Option<&'a Var>
     ensures { option_copied result ≡ innermost name.now binders.now }
 {
-    for binder in binders.iter().rev() {
+    let mut found = None;
+    for binder in binders {
         if binder.name() == name {
-            return Some(binder);
+            found = Some(binder);
         }
     }
-    None
+    found
 }
 
 /// The abstraction over each of the variables, the first outermost.
+#[tactic(auto, using(crate::proofs::Binders::abstraction_lemmas))]
 fn abstraction(alloc: Global, binders: &[Var], body: Term) -> Result<Term, AllocError>
     requires { IsClosedAt 0 body }
     ensures { IfOk result (λ t. t ≡ lambdas binders.now body) }
