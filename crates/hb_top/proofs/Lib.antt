@@ -6,3 +6,4 @@ pub mod Written
 pub mod Words
 pub mod Steps
 pub mod Binders
+pub mod BinderLoop

@@ -1,6 +1,6 @@
 //! Reads a `define` command.
 
-ghost use Rattle.std.specs.Prelude.{◌≡◌, IfOk, MatchOption, string_bytes};
+ghost use Rattle.std.specs.Prelude.{◌≡◌, None, IfOk, MatchOption, string_bytes};
 ghost use Rattle.std.specs.Option.{option_copied, option_map};
 ghost use Rattle.std.specs.Ordering.{is_eq};
 ghost use Rattle.hol_terms.specs.Subst.{ty_cmp};
@@ -56,6 +56,53 @@ fn binder_at<'a>(
     Ok((Var::new(alloc, name, &ty)?, rest))
 }
 
+/// The binders in front, fewer than `fuel`.
+fn binders_at<'a>(
+    alloc: Global,
+    fuel: usize,
+    bytes: &'a [u8],
+) -> Result<(Vec<Var>, &'a [u8]), ReadError>
+    ensures { Gives (λ x. (x.0.items, x.1.now)) result (binders_at fuel fuel bytes.now) }
+{
+    let mut binders = Vec::new(alloc);
+    let mut rest = bytes;
+    for _ in 0..fuel {
+        let Some(named) = strip(rest, b"\\") else {
+            return Ok((binders, rest));
+        };
+        let (binder, after) = binder_at(alloc, fuel, named)?;
+        binders.push(binder)?;
+        rest = after;
+    }
+    Err(ReadError::Refused)
+}
+
+/// The parts of the command that the text is.
+#[tactic(auto, unfolding(crate::specs::Reading::parts_at))]
+fn parts_at(alloc: Global, fuel: usize, bytes: &[u8]) -> Result<Parts, ReadError>
+    ensures { Gives written result (parts_at fuel bytes.now) }
+{
+    let rest = skip(bytes, b"define ")?;
+    let (name, rest) = word_at(rest)?;
+    let rest = skip(rest, b" : ")?;
+    let (ty, rest) = type_at(alloc, fuel, rest)?;
+    let rest = skip(rest, b" = ")?;
+    let (binders, rest) = binders_at(alloc, fuel, rest)?;
+    let (last, rest) = word_at(rest)?;
+    let rest = skip(rest, b";")?;
+    if !rest.is_empty() {
+        return Err(ReadError::Refused);
+    }
+    let name = String::from_str(alloc, name)?;
+    let last = String::from_str(alloc, last)?;
+    Ok(Parts {
+        name,
+        ty,
+        binders,
+        last,
+    })
+}
+
 fn is_new(sig: &Sig, name: &str) -> bool
     ensures { result ≡ is_new sig.now name.now }
 {
@@ -99,4 +146,25 @@ fn abstraction(alloc: Global, binders: &[Var], body: Term) -> Result<Term, Alloc
         whole = Term::mk_abs(alloc, &binders[i], &whole)?;
     }
     Ok(whole)
+}
+
+/// `T` or `F`.
+fn truth_value(alloc: Global, name: &str) -> Result<Term, ReadError>
+    ensures { Gives (λ t. t) result (leaf_of None name.now) }
+{
+    if name != "T" && name != "F" {
+        return Err(ReadError::Refused);
+    }
+    let truth = HolType::app(alloc, "bool", &[])?;
+    Ok(Term::mk_const_at(alloc, name, &truth, &[])?)
+}
+
+/// What the name stands for: its innermost binder, or else `T` or `F`.
+fn leaf(alloc: Global, name: &str, binders: &[Var]) -> Result<Term, ReadError>
+    ensures { Gives (λ t. t) result (leaf_of (innermost name.now binders.now) name.now) }
+{
+    match innermost(name, binders) {
+        Some(binder) => Ok(Term::mk_var(alloc, binder)?),
+        None => truth_value(alloc, name),
+    }
 }
