@@ -1,13 +1,12 @@
 -- Binders, one after the other.
-use Rattle.std.proofs.Common.{◌≡◌, ◌≢◌, refl, sym, ap, ◌∙◌, subst, ℕ, zero, suc, ◌+◌, ◌-◌, ◌≤◌, ◌<◌, Bool, true, false, cond, not, List, [], ◌∷◌, ◌++◌, length, take, get_or, Option, Some, None, arith, nat_eq}
-use Rattle.std.specs.Prelude.{bytes_eq, codes}
+use Rattle.std.proofs.Common.{◌≡◌, refl, sym, ap, ◌∙◌, ℕ, ◌+◌, ◌<◌, Bool, true, false, cond, List, [], ◌∷◌, ◌++◌, length, take, get_or, Option, Some, None, arith}
+use Rattle.std.specs.Prelude.{bytes_eq}
 use Rattle.std.proofs.lemmas.List.{take_more}
 use Rattle.hol_terms.specs.Name.{Name}
 use Rattle.hol_terms.specs.Tm.{Tm, tm_index, tm_free, tm_const, tm_comb, tm_abs, FreeVar}
 use Rattle.hol_terms.specs.Binding.{tm_bind, var_eq}
 use Rattle.hol_terms.specs.Rules.{lambda}
 use Rattle.hol_terms.specs.Loose.{IsClosedAt}
-use Rattle.hol_terms.specs.Text.{Text}
 use Rattle.hb_top.specs.Command.{innermost, or_else, lambdas}
 
 -- ---- the innermost binder

@@ -1,17 +1,16 @@
 -- A command that is read stood there and meets what it has to; a command that stands there is read.
-use Rattle.std.proofs.Common.{◌≡◌, ◌≢◌, refl, sym, ap, ◌∙◌, subst, ℕ, zero, suc, ◌+◌, ◌≤◌, ◌<◌, Bool, true, false, cond, not, ◌&&◌, ◌||◌, ◌==◌, List, [], ◌∷◌, ◌++◌, length, Option, Some, None, ◌⊎◌, inl, inr, arith, append_assoc, eqb-true}
-use Rattle.std.specs.Prelude.{bytes_eq, codes}
+use Rattle.std.proofs.Common.{◌≡◌, refl, sym, ap, ◌∙◌, subst, ℕ, zero, suc, true, cond, not, ◌&&◌, ◌==◌, List, [], ◌∷◌, ◌++◌, length, Option, Some, None, arith, append_assoc, eqb-true}
+use Rattle.std.specs.Prelude.{codes}
 use Rattle.std.specs.List.{list_all, flat_map}
-use Rattle.std.proofs.lemmas.Bool.{true≢false, and_parts, and_from, or_cases, or_left, or_right, not-true, not_from_false, eq-eqb}
-use Rattle.std.proofs.lemmas.List.{length-append}
-use Rattle.hol_terms.specs.Name.{Name, is_keyword, is_numbered}
-use Rattle.hol_terms.specs.Ty.{Ty, ty_var, ty_app, Tys, no_tys, more_tys, ty_size}
+use Rattle.std.proofs.lemmas.Bool.{and_from, not_from_false}
+use Rattle.hol_terms.specs.Name.{Name, is_keyword}
+use Rattle.hol_terms.specs.Ty.{Ty}
 use Rattle.hol_terms.specs.Tm.{FreeVar}
 use Rattle.hol_terms.specs.Text.{Text, ty_text}
-use Rattle.hb_top.specs.Command.{Define, IsDefine, define_text, binder_text, is_binder, is_word, is_simple}
-use Rattle.hb_top.specs.Reading.{◌>>=◌, Front, after, word_at, type_at, binder_at, binders_by, binders_at, parts_at}
-use Rattle.hb_top.proofs.FrontLemmas.{some, when_some, bind_some, none_unless, none_if, same_some, after_takes, after_again, begins_word, word_takes, word_again}
-use Rattle.hb_top.proofs.Types.{IsType, type_takes, IsEnd, type_again, size-text}
+use Rattle.hb_top.specs.Command.{Define, define_text, binder_text, is_binder, is_word, is_simple}
+use Rattle.hb_top.specs.Reading.{Front, after, word_at, type_at, binder_at, binders_by, binders_at, parts_at}
+use Rattle.hb_top.proofs.FrontLemmas.{some, when_some, none_unless, none_if, same_some, after_takes, word_takes}
+use Rattle.hb_top.proofs.Types.{IsType, type_takes}
 
 -- ---- binders
 

@@ -1,18 +1,15 @@
 -- Reading fronts, words and types without arguments: what is read stood there, and what stands there is read.
-use Rattle.std.proofs.Common.{◌≡◌, ◌≢◌, refl, sym, ap, ◌∙◌, subst, ℕ, zero, suc, ◌+◌, ◌≤◌, ◌<◌, Bool, true, false, cond, not, ◌&&◌, ◌||◌, ◌==◌, List, [], ◌∷◌, ◌++◌, length, take, drop, Option, Some, None, ◌⊎◌, inl, inr, arith, append_assoc, add-one, eqb-true, eqb}
-use Rattle.std.specs.Prelude.{bytes_eq, codes}
+use Rattle.std.proofs.Common.{◌≡◌, refl, sym, ap, ◌∙◌, ℕ, suc, ◌+◌, Bool, true, false, cond, ◌||◌, ◌==◌, [], ◌∷◌, ◌++◌, length, take, drop, Option, Some, None, arith, eqb-true}
 use Rattle.std.specs.List.{prefix_len, list_all}
 use Rattle.std.specs.Char.{is_ascii_alphabetic}
 use Rattle.std.specs.Int.{is_in_range}
-use Rattle.std.proofs.lemmas.Bool.{and_parts, and_from, or_cases, not-true, cases_Bool, cond-true, cond-false, eq-eqb}
+use Rattle.std.proofs.lemmas.Bool.{and_parts, and_from, cond-true, cond-false, eq-eqb}
 use Rattle.std.proofs.lemmas.List.{take_at, drop_at, take-append-drop}
-use Rattle.std.proofs.lemmas.Slice.Eq.{bytes_eq-Decides}
 use Rattle.std.proofs.lemmas.Option.{cond_some}
-use Rattle.hol_terms.specs.Name.{Name, is_numbered}
-use Rattle.hol_terms.specs.Ty.{Ty, ty_var, ty_app, Tys, no_tys, more_tys}
-use Rattle.hol_terms.specs.Text.{Text, ty_text, is_function}
-use Rattle.hb_top.specs.Command.{is_word, is_word_character, is_simple, is_start_type}
-use Rattle.hb_top.specs.Reading.{◌>>=◌, Front, after, word_length, word_at, is_plain_type, atom_by, atom_at}
+use Rattle.hol_terms.specs.Name.{Name}
+use Rattle.hol_terms.specs.Text.{Text}
+use Rattle.hb_top.specs.Command.{is_word, is_word_character}
+use Rattle.hb_top.specs.Reading.{◌>>=◌, after, word_length, word_at}
 
 -- a step that was taken
 pub bind_some : {A B : Type 0} (o : Option A) (f : A → Option B) (y : B) → (o >>= f) ≡ Some y → (x : A) × (o ≡ Some x) × (f x ≡ Some y)

@@ -7,3 +7,4 @@ pub mod Words
 pub mod Steps
 pub mod Binders
 pub mod BinderLoop
+pub mod Answered

@@ -1,7 +1,7 @@
 -- A type that is read stood there and is simple; a simple type that stands there is read.
-use Rattle.std.proofs.Common.{◌≡◌, ◌≢◌, refl, sym, ap, ◌∙◌, subst, ℕ, zero, suc, ◌+◌, ◌≤◌, ◌<◌, Bool, true, false, cond, not, ◌&&◌, ◌||◌, ◌==◌, List, [], ◌∷◌, ◌++◌, length, Option, Some, None, ◌⊎◌, inl, inr, arith, append_assoc, eqb-true}
+use Rattle.std.proofs.Common.{◌≡◌, refl, sym, ap, ◌∙◌, subst, ℕ, zero, suc, ◌+◌, ◌≤◌, Bool, true, false, not, ◌&&◌, ◌==◌, ◌∷◌, ◌++◌, length, Option, Some, None, ◌⊎◌, inl, inr, arith, append_assoc, eqb-true}
 use Rattle.std.specs.Prelude.{bytes_eq, codes}
-use Rattle.std.proofs.lemmas.Bool.{true≢false, and_parts, and_from, or_cases, or_left, or_right, not-true, not_from_false, eq-eqb}
+use Rattle.std.proofs.lemmas.Bool.{true≢false, and_parts, and_from, or_cases, or_left, not-true, not_from_false}
 use Rattle.std.proofs.lemmas.List.{length-append}
 use Rattle.std.proofs.lemmas.Slice.Eq.{bytes_eq-Decides}
 use Rattle.hol_terms.specs.Name.{Name, is_numbered}
@@ -11,7 +11,7 @@ use Rattle.hol_terms.specs.Signature.{tys_count}
 use Rattle.hol_terms.specs.Text.{Text, ty_text, is_function, parenthesized}
 use Rattle.hb_top.specs.Command.{is_word, is_simple, are_simple, is_start_type}
 use Rattle.hb_top.specs.Reading.{◌>>=◌, Front, after, word_at, is_plain_type, variable_of, plain_of, atom_by, atom_at, from_domain, to_range, range_by, with_range, after_domain, type_by, type_at}
-use Rattle.hb_top.proofs.FrontLemmas.{bind_some, none_unless, none_if, same_some, after_takes, after_again, begins_word, word_takes, word_again}
+use Rattle.hb_top.proofs.FrontLemmas.{bind_some, none_unless, none_if, same_some, after_takes, begins_word, word_takes, word_again}
 
 pub same_name : (a b : Name) → bytes_eq a b ≡ true → a ≡ b
 same_name a b e = (bytes_eq-Decides a b).0 e

@@ -1,18 +1,17 @@
 -- A command that stands there is read, and so a text is that of one command at most.
-use Rattle.std.proofs.Common.{◌≡◌, ◌≢◌, refl, sym, ap, ◌∙◌, subst, ℕ, zero, suc, ◌+◌, ◌≤◌, ◌<◌, Bool, true, false, cond, not, ◌&&◌, ◌||◌, ◌==◌, List, [], ◌∷◌, ◌++◌, length, Option, Some, None, ◌⊎◌, inl, inr, arith, append_assoc, eqb-true}
+use Rattle.std.proofs.Common.{◌≡◌, refl, sym, ap, ◌∙◌, subst, ℕ, zero, suc, ◌+◌, ◌≤◌, ◌<◌, Bool, true, false, cond, not, ◌&&◌, ◌==◌, List, [], ◌∷◌, ◌++◌, length, Option, Some, None, inl, inr, arith, append_assoc, eqb-true}
 use Rattle.std.specs.Prelude.{bytes_eq, codes}
 use Rattle.std.specs.List.{list_all, flat_map}
-use Rattle.std.specs.Char.{is_ascii_alphabetic}
-use Rattle.std.proofs.lemmas.Bool.{true≢false, and_parts, and_from, or_cases, not-true, cond-false, false_from_ne_true}
+use Rattle.std.proofs.lemmas.Bool.{true≢false, and_parts, or_cases, not-true, cond-false, false_from_ne_true}
 use Rattle.std.proofs.lemmas.List.{length-append}
-use Rattle.hol_terms.specs.Name.{Name, is_keyword, is_numbered}
-use Rattle.hol_terms.specs.Ty.{Ty, ty_size}
+use Rattle.hol_terms.specs.Name.{Name, is_keyword}
+use Rattle.hol_terms.specs.Ty.{ty_size}
 use Rattle.hol_terms.specs.Tm.{FreeVar}
 use Rattle.hol_terms.specs.Text.{Text, ty_text}
 use Rattle.hb_top.specs.Command.{Define, IsDefine, define_text, binder_text, is_binder, is_word, is_word_character, is_simple, innermost, or_else, is_known}
-use Rattle.hb_top.specs.Reading.{◌>>=◌, Front, after, word_at, type_at, binder_at, binders_by, binders_at, parts_at}
-use Rattle.hb_top.proofs.FrontLemmas.{some, same_some, begins_word, word_again, is_word-all}
-use Rattle.hb_top.proofs.Types.{IsEnd, type_again, size-text, same_name}
+use Rattle.hb_top.specs.Reading.{after, word_at, type_at, binder_at, binders_by, binders_at, parts_at}
+use Rattle.hb_top.proofs.FrontLemmas.{some, same_some, word_again, is_word-all}
+use Rattle.hb_top.proofs.Types.{type_again, size-text, same_name}
 use Rattle.hb_top.proofs.Commands.{binder_text-parts, define_text-parts, IsWritten}
 
 -- ---- binders

@@ -1,6 +1,6 @@
 -- Reading a command from left to right. What is read is the front of a text, and the rest is handed on.
-use Rattle.std.specs.Prelude.{ℕ, zero, suc, Bool, true, false, not, ◌&&◌, ◌||◌, ◌==◌, List, [], ◌∷◌, take, drop, length, Option, Some, None, if◌then◌else◌, bytes_eq, codes}
-use Rattle.std.specs.List.{prefix_len, list_all}
+use Rattle.std.specs.Prelude.{ℕ, zero, suc, Bool, not, ◌&&◌, ◌||◌, ◌==◌, List, [], ◌∷◌, take, drop, length, Option, Some, None, if◌then◌else◌, bytes_eq, codes}
+use Rattle.std.specs.List.{prefix_len}
 use Rattle.std.specs.Ordering.{is_eq}
 use Rattle.hol_terms.specs.Name.{Name, is_keyword, is_numbered}
 use Rattle.hol_terms.specs.Ty.{Ty, ty_var, ty_app, no_tys}

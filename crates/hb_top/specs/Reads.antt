@@ -1,5 +1,5 @@
 -- What a reader returned, beside what is read of the bytes.
-use Rattle.std.specs.Prelude.{◌≡◌, ◌≢◌, List, Option, Some, None, Result, Ok, Err, string_bytes}
+use Rattle.std.specs.Prelude.{◌≡◌, ◌≢◌, Option, Some, None, Result, Ok, Err, string_bytes}
 use Rattle.hol_terms.specs.Name.{Name}
 use Rattle.hol_terms.specs.Tm.{Tm}
 use Rattle.hol_terms.specs.Text.{Text}
@@ -31,5 +31,9 @@ abbrev pub IsNoDefine : Text → Type 0
 IsNoDefine b = (d : Define) → IsDefine d → b ≢ define_text d
 
 -- the text is that of a command with this name and this term
-abbrev pub Reads : Text → DefineCommand → Type 0
-Reads b c = (d : Define) × IsDefine d × (b ≡ define_text d) × (string_bytes c.name ≡ d.name) × (c.body ≡ term_of d)
+pub record Reads (b : Text) (c : DefineCommand) : Type 0 where
+  pub command : Define
+  pub meets : IsDefine command
+  pub text : b ≡ define_text command
+  pub name : string_bytes c.name ≡ command.name
+  pub body : c.body ≡ term_of command

@@ -168,3 +168,38 @@ fn leaf(alloc: Global, name: &str, binders: &[Var]) -> Result<Term, ReadError>
         None => truth_value(alloc, name),
     }
 }
+
+/// The command that the text is.
+#[tactic(auto, unfolding(crate::specs::Reading::command_at))]
+fn command_at(alloc: Global, sig: &Sig, bytes: &[u8]) -> Result<DefineCommand, ReadError>
+    ensures { Gives (λ c. (string_bytes c.name, c.body)) result (option_map meaning (command_at sig.now bytes.now)) }
+{
+    let parts = parts_at(alloc, bytes.len(), bytes)?;
+    if !may_define(sig, parts.name.as_str()) {
+        return Err(ReadError::Refused);
+    }
+    let leaf = leaf(alloc, parts.last.as_str(), &parts.binders)?;
+    let body = abstraction(alloc, &parts.binders, leaf)?;
+    if !has_type(&body, &parts.ty) {
+        return Err(ReadError::Refused);
+    }
+    let Parts { name, .. } = parts;
+    Ok(DefineCommand { name, body })
+}
+
+/// The `define` command that the text is, or None where it is none.
+#[tactic(auto, using(crate::proofs::Answered::read_lemmas))]
+pub(crate) fn read_define(
+    alloc: Global,
+    sig: &Sig,
+    bytes: &[u8],
+) -> Result<Option<DefineCommand>, AllocError>
+    requires { sig.now ≡ signature_of (base 10) }
+    ensures { IfOk result (λ r. MatchOption r (IsNoDefine bytes.now) (λ c. Reads bytes.now c)) }
+{
+    match command_at(alloc, sig, bytes) {
+        Ok(command) => Ok(Some(command)),
+        Err(ReadError::Refused) => Ok(None),
+        Err(ReadError::Memory) => Err(AllocError),
+    }
+}

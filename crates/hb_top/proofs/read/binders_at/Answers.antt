@@ -1,7 +1,7 @@
-use Rattle.std.proofs.Common.{◌≡◌, ◌++◌, ◌∷◌, [], ◌-◌, ◌+◌, ◌<◌, sym, subst, ap, ◌∙◌, ℕ, List, arith}
+use Rattle.std.proofs.Common.{◌≡◌, ◌-◌, ◌+◌, ◌<◌, sym, arith}
 use Rattle.std.proofs.lemmas.Result.{err_from_is_err_and}
 use Rattle.hb_top.specs.Reading.{binders_at}
-use Rattle.hb_top.proofs.BinderLoop.{with_front, goes_on, is_done, ends, is_over}
+use Rattle.hb_top.proofs.BinderLoop.{goes_on, is_done, ends, is_over}
 use Rattle.hb_top.proofs.read.binders_at.Goals as goal
 
 pub returns-in_default : goal.returns-in_default
