@@ -1,5 +1,5 @@
+pub mod BuildingLemmas
 pub mod FrontLemmas
-
 pub mod Types
 pub mod Commands
 pub mod Written

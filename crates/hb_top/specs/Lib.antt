@@ -1,4 +1,6 @@
 pub mod Command
 pub mod Answer
+pub mod Layout
+pub mod Building
 pub mod Reading
 pub mod Reads

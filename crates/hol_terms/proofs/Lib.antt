@@ -5,3 +5,12 @@ pub mod LooseLemmas
 pub mod TotalOrder
 pub mod NameLemmas
 pub mod Tables
+pub mod Weaken
+pub mod Typed
+pub mod Defining
+pub mod AsciiNames
+pub mod Checked
+pub mod PlainTrees
+pub mod BaseOpened
+pub mod BaseTyped
+pub mod BaseLinesRead

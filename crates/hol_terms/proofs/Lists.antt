@@ -1,11 +1,11 @@
 -- Lists of types, a member at a time.
-use Rattle.std.proofs.Common.{◌≡◌, ◌≢◌, ℕ, zero, suc, arith, ◌+◌, ◌<◌, ◌≤◌, List, [], ◌∷◌, ◌++◌, append_assoc, length, get_or, drop, map, refl, sym, ap, ◌∙◌, drop-cons, drop_of_length-le, add-one, bytes_eq, String, string_bytes, cond}
+use Rattle.std.proofs.Common.{◌≡◌, ◌≢◌, Bool, true, false, ◌&&◌, ◌||◌, ℕ, zero, suc, arith, ◌+◌, ◌<◌, ◌≤◌, List, [], ◌∷◌, ◌++◌, append_assoc, length, get_or, drop, map, refl, sym, ap, ◌∙◌, drop-cons, drop_of_length-le, add-one, bytes_eq, String, string_bytes, cond}
 use Rattle.std.specs.Ordering.{ordering_then}
 use Rattle.std.specs.Cmp.Lexicographic.{slice_cmp}
 use Rattle.std.specs.declared.cmp.Ordering.{Ordering}
 use Rattle.std.specs.declared.cmp.Ordering.TheVariants.{Less, Equal, Greater}
 use Rattle.std.specs.declared.alloc.Global.{Global}
-use Rattle.hol_terms.specs.TyVars.{ty_vars, tys_vars, pairs_of, var_name}
+use Rattle.hol_terms.specs.TyVars.{ty_vars, tys_vars, pairs_of, var_name, occurs, occurs_in, ty_within, tys_within}
 use Rattle.hol_terms.specs.Binding.{var_lookup, var_eq}
 use Rattle.hol_terms.specs.Tm.{Tm, tm_free, FreeVar}
 use Rattle.hol_terms.specs.Typing.{fun_ty}
@@ -104,3 +104,17 @@ pub pairs_of-end_right : (vs ts : List Ty) (i : ℕ) (d : Ty) → i < length vs 
 pairs_of-end_right vs ts i d h g = rw (drop-cons vs i d h, drop_of_length-le ts g) refl
 
 pub ruleset pairs_lemmas = (ty_pairs-push, pairs_of-at, pairs_of-end_left, pairs_of-end_right)
+
+pub occurs-at : (n : Name) (ts : List Ty) (i : ℕ) (d : Ty) → i < length ts → occurs_in n (tys (drop i ts)) ≡ (occurs n (get_or ts i d) || occurs_in n (tys (drop (i + 1) ts)))
+occurs-at n ts i d h = rw (add-one, drop-cons ts i d h) refl
+
+pub occurs-end : (n : Name) (ts : List Ty) (i : ℕ) → length ts ≤ i → occurs_in n (tys (drop i ts)) ≡ false
+occurs-end n ts i h = rw (drop_of_length-le ts h) refl
+
+pub within-at : (u : Ty) (ts : List Ty) (i : ℕ) (d : Ty) → i < length ts → tys_within (tys (drop i ts)) u ≡ (ty_within (get_or ts i d) u && tys_within (tys (drop (i + 1) ts)) u)
+within-at u ts i d h = rw (add-one, drop-cons ts i d h) refl
+
+pub within-end : (u : Ty) (ts : List Ty) (i : ℕ) → length ts ≤ i → tys_within (tys (drop i ts)) u ≡ true
+within-end u ts i h = rw (drop_of_length-le ts h) refl
+
+pub ruleset occurs_lemmas = (occurs-at, occurs-end, within-at, within-end, ty_size-at)

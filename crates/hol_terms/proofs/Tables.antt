@@ -1,7 +1,8 @@
 -- Tables by name: looking up, and one entry more.
-use Rattle.std.proofs.Common.{◌≡◌, ℕ, Bool, true, false, List, [], ◌∷◌, ◌++◌, Option, Some, None, is_none, ◌&&◌, cond, eq-eqb, refl, ap, sym, ◌∙◌, bytes_eq, String, string_bytes}
+use Rattle.std.proofs.Common.{◌≡◌, ℕ, Bool, true, false, List, [], ◌∷◌, ◌++◌, Option, Some, None, is_none, ◌&&◌, cond, eq-eqb, Bor, refl, ap, sym, ◌∙◌, bytes_eq, String, string_bytes}
 use Rattle.std.specs.declared.alloc.Global.{Global}
 use Rattle.std.specs.Map.{lookup}
+use Rattle.std.specs.Option.{option_copied}
 use Rattle.std.specs.String.{string_eq}
 use Rattle.std.proofs.lemmas.Slice.Eq.{bytes_eq-Decides}
 use Rattle.std.specs.Cmp.Lexicographic.{nat_list_eq_equiv}
@@ -41,11 +42,11 @@ pub none_is : {A : Type 0} (r : Option A) → is_none r ≡ true → r ≡ None
 none_is None e = refl
 none_is (Some x) e = cc
 
-and_left : (a b : Bool) → (a && b) ≡ true → a ≡ true
+pub and_left : (a b : Bool) → (a && b) ≡ true → a ≡ true
 and_left true b e = refl
 and_left false b e = cc
 
-and_right : (a b : Bool) → (a && b) ≡ true → b ≡ true
+pub and_right : (a b : Bool) → (a && b) ≡ true → b ≡ true
 and_right true b e = e
 and_right false b e = cc
 
@@ -83,3 +84,9 @@ new_names s n p e =
     }
 
 pub ruleset push_lemmas = (entry_at-push)
+
+pub is_none-copied : {A : Type 0} (r : Option (Bor A)) → is_none (option_copied r) ≡ is_none r
+is_none-copied None = refl
+is_none-copied (Some x) = refl
+
+pub ruleset new_lemmas = (is_none-copied)

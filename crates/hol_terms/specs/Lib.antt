@@ -27,3 +27,5 @@ pub mod TmNode
 pub mod Keeps
 pub mod DefShape
 pub mod Table
+pub mod WellFormed
+pub mod BaseLines

@@ -3,6 +3,7 @@
 #![tactic(auto)]
 
 pub mod defs;
+pub mod laws;
 pub mod names;
 pub mod sig;
 pub mod terms;

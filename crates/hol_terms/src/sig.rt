@@ -1,12 +1,13 @@
 ghost use Rattle.std.specs.Prelude.{◌≡◌, ◌+◌, ◌<◌, ◌≤◌, [], ◌∷◌, ◌++◌, true, false, None, bytes_eq, string_bytes, IfOk, OnOk, OnErr};
 ghost use Rattle.indexmap.specs.IndexMap.{spare};
 ghost use Rattle.std.specs.Option.{option_copied};
-ghost use Rattle.hol_terms.specs.Signature.{arity_of, generic_of, entry_at};
+ghost use Rattle.hol_terms.specs.Signature.{arity_of, generic_of, entry_at, is_new, may_introduce};
 ghost use Rattle.hol_terms.specs.Definition.{type_def, start, with_def};
 ghost use Rattle.hol_terms.specs.Table.{named, with_type, with_const, introduces_new, IsPredicate, IsPredicateOf};
 ghost use Rattle.hol_terms.specs.DefShape.{definition_of};
 
 use crate::defs::Def;
+use crate::names::{is_name, is_numbered};
 use crate::terms::Term;
 use crate::types::HolType;
 use indexmap::IndexMap;
@@ -67,6 +68,22 @@ impl Sig {
         ensures { option_copied result ≡ generic_of self.now c.now }
     {
         self.consts.get(c)
+    }
+
+    /// Whether a definition may introduce the name: it is a name, not `x` and digits, and no type or constant has it.
+    #[tactic(auto, using(crate::proofs::Tables::new_lemmas))]
+    pub fn may_introduce(&self, name: &str) -> bool
+        ensures { result ≡ may_introduce self.now name.now }
+    {
+        is_name(name) && !is_numbered(name) && self.is_new(name)
+    }
+
+    /// Whether no type or constant has the name.
+    #[tactic(auto, using(crate::proofs::Tables::new_lemmas))]
+    pub fn is_new(&self, name: &str) -> bool
+        ensures { result ≡ is_new self.now name.now }
+    {
+        self.arity(name).is_none() && self.generic(name).is_none()
     }
 
     /// Adds a type with its number of arguments. After want of memory the signature is as before.

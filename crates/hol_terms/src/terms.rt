@@ -4,14 +4,14 @@ ghost use Rattle.hol_terms.specs.Typing.{tm_type, range_ty, fun_ty};
 ghost use Rattle.hol_terms.specs.TmBody.{tm_of_body, HoldsType};
 ghost use Rattle.hol_terms.specs.TmNode.{IsTmNode};
 ghost use Rattle.hol_terms.specs.Binding.{var_cmp, tm_bind};
-ghost use Rattle.hol_terms.specs.Definition.{eq_ty};
+ghost use Rattle.hol_terms.specs.Definition.{eq_ty, has_frees};
 ghost use Rattle.hol_terms.specs.Signature.{generic_of};
-ghost use Rattle.hol_terms.specs.TyVars.{ty_vars, tm_ty_vars, const_at, own_const};
+ghost use Rattle.hol_terms.specs.TyVars.{ty_vars, tm_ty_vars, tm_within, const_at, own_const};
 ghost use Rattle.hol_terms.specs.Sequent.{eq_tm};
 ghost use Rattle.hol_terms.specs.Loose.{HasAt, IsClosedAt};
 
 use crate::sig::Sig;
-use crate::types::{HolType, add_vars_of, copy_all};
+use crate::types::{HolType, add_vars_of, are_within, copy_all};
 use std::alloc::{AllocError, Global};
 use std::cmp::Ordering;
 use std::marker::Model;
@@ -251,6 +251,32 @@ impl Term {
         let args = ty.vars(alloc)?;
         let ty = ty.copy()?;
         Term::close(alloc, TermBody::Const(name, args, ty))
+    }
+
+    /// Whether a free variable occurs in the term.
+    pub fn has_frees(&self) -> bool
+        ensures { result ≡ has_frees self.now }
+    {
+        match self.view() {
+            TermNode::Index(_) => false,
+            TermNode::Free(_) => true,
+            TermNode::Const(_, _) => false,
+            TermNode::Comb(f, x) => f.has_frees() || x.has_frees(),
+            TermNode::Abs(_, b) => b.has_frees(),
+        }
+    }
+
+    /// Whether each type variable of the term occurs in `ty`.
+    pub fn is_within(&self, ty: &HolType) -> bool
+        ensures { result ≡ tm_within self.now ty.now }
+    {
+        match self.view() {
+            TermNode::Index(_) => true,
+            TermNode::Free(v) => v.ty().is_within(ty),
+            TermNode::Const(_, args) => are_within(args, ty),
+            TermNode::Comb(f, x) => f.is_within(ty) && x.is_within(ty),
+            TermNode::Abs(a, b) => a.is_within(ty) && b.is_within(ty),
+        }
     }
 
     /// The type variables of the term, each once, by first occurrence.

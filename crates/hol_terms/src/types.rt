@@ -2,7 +2,7 @@ ghost use Rattle.std.specs.Prelude.{◌≡◌, IfOk, string_bytes};
 ghost use Rattle.std.specs.Prelude.{[], OnOk};
 ghost use Rattle.std.specs.List.{list_any};
 ghost use Rattle.std.specs.Ordering.{is_eq};
-ghost use Rattle.hol_terms.specs.TyVars.{ty_vars, tys_vars, with_var, pairs_of, instance_at, var_name};
+ghost use Rattle.hol_terms.specs.TyVars.{ty_vars, tys_vars, occurs, ty_within, tys_within, with_var, pairs_of, instance_at, var_name};
 ghost use Rattle.hol_terms.specs.Ty.{ty_var, ty_app, tys};
 ghost use Rattle.hol_terms.specs.Shape.{ty_of_body};
 ghost use Rattle.std.specs.Cmp.Lexicographic.{slice_cmp};
@@ -163,6 +163,42 @@ impl HolType {
         }
     }
 
+    /// Whether the type variable of this name occurs in the type.
+    #[tactic(auto, using(crate::proofs::Lists::occurs_lemmas))]
+    pub fn mentions(&self, name: &str) -> bool
+        ensures { result ≡ occurs name.now self.now }
+    {
+        match self.view() {
+            TypeNode::Var(own) => own == name,
+            TypeNode::App(_, args) => {
+                for arg in args {
+                    if arg.mentions(name) {
+                        return true;
+                    }
+                }
+                false
+            }
+        }
+    }
+
+    /// Whether each type variable of the type occurs in `other`.
+    #[tactic(auto, using(crate::proofs::Lists::occurs_lemmas))]
+    pub fn is_within(&self, other: &HolType) -> bool
+        ensures { result ≡ ty_within self.now other.now }
+    {
+        match self.view() {
+            TypeNode::Var(name) => other.mentions(name),
+            TypeNode::App(_, args) => {
+                for arg in args {
+                    if !arg.is_within(other) {
+                        return false;
+                    }
+                }
+                true
+            }
+        }
+    }
+
     /// The type as a generic one, with `args` in place of its type variables, by first occurrence.
     pub fn instance(&self, alloc: Global, args: &[HolType]) -> Result<HolType, AllocError>
         ensures { IfOk result (λ t. t ≡ instance_at self.now args.now) }
@@ -234,6 +270,19 @@ pub(crate) fn add_vars_of(types: &[HolType], seen: &mut Vec<HolType>) -> Result<
         ty.add_vars(seen)?;
     }
     Ok(())
+}
+
+/// Whether each type variable of each of the types occurs in `other`.
+#[tactic(auto, using(crate::proofs::Lists::occurs_lemmas))]
+pub(crate) fn are_within(types: &[HolType], other: &HolType) -> bool
+    ensures { result ≡ tys_within (tys types.now) other.now }
+{
+    for ty in types {
+        if !ty.is_within(other) {
+            return false;
+        }
+    }
+    true
 }
 
 fn add_var(seen: &mut Vec<HolType>, v: &HolType) -> Result<(), AllocError>
