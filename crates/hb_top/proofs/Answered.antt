@@ -26,7 +26,7 @@ use Rattle.hb_top.proofs.FrontLemmas.{when_some, none_unless, same_some}
 use Rattle.hb_top.proofs.Commands.{IsWritten, parts_take}
 use Rattle.hb_top.proofs.Written.{parts_again, is_written}
 
-own_reverse : (o : Ordering) → o ≡ ordering_reverse o → o ≡ Equal
+pub own_reverse : (o : Ordering) → o ≡ ordering_reverse o → o ≡ Equal
 own_reverse Less e = cc
 own_reverse Equal e = refl
 own_reverse Greater e = cc

@@ -8,3 +8,4 @@ pub mod Steps
 pub mod Binders
 pub mod BinderLoop
 pub mod Answered
+pub mod Abstractions
