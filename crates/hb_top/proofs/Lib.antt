@@ -9,3 +9,4 @@ pub mod Binders
 pub mod BinderLoop
 pub mod Answered
 pub mod Abstractions
+pub mod Defined

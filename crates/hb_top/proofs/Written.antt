@@ -87,7 +87,7 @@ parts_again n d w l =
 -- ---- what a command has to meet, so far as its text shows it
 
 -- the innermost binder is one of the binders
-innermost_meets : (n : Name) (vs : List FreeVar) (v : FreeVar) → list_all is_binder vs ≡ true → innermost n vs ≡ Some v → (is_binder v ≡ true) × (v.name ≡ n)
+pub innermost_meets : (n : Name) (vs : List FreeVar) (v : FreeVar) → list_all is_binder vs ≡ true → innermost n vs ≡ Some v → (is_binder v ≡ true) × (v.name ≡ n)
 innermost_meets n [] v e q = absurd cc
 innermost_meets n (u ∷ us) v e q =
     let p = and_parts (is_binder u) (list_all is_binder us) e in
