@@ -10,3 +10,4 @@ pub mod BinderLoop
 pub mod Answered
 pub mod Abstractions
 pub mod Defined
+pub mod NoNewline
