@@ -13,7 +13,8 @@ use Rattle.hol_terms.specs.Binding.{tm_bind, var_eq}
 use Rattle.hol_terms.specs.Sequent.{eq_tm, argument}
 use Rattle.hol_terms.specs.Definition.{bool_ty}
 use Rattle.hol_terms.specs.Text.{Text, ty_text, tys_texts, parenthesized, with_commas, with_arguments, bound_text, Sugar, between, before, binding, none, sign_between, sign_binding, sign_before, sugar, whole_text, is_plain, is_atom, is_function, Printed, printed, tm_text}
-use Rattle.hb_top.specs.Command.{Define, IsDefine, term_of, lambdas, innermost, meaning_of, is_known, is_binder, is_simple, are_simple, is_word, is_word_character}
+use Rattle.hol_terms.specs.Signature.{tys_count}
+use Rattle.hb_top.specs.Command.{Define, IsDefine, term_of, lambdas, innermost, meaning_of, is_binder, is_simple, are_simple, is_start_type, is_word, is_word_character}
 use Rattle.hb_top.proofs.FrontLemmas.{is_word-all}
 use Rattle.hb_top.proofs.Types.{Applied, no_argument, two_arguments, applied_is, plain_cases}
 use Rattle.hb_top.proofs.Written.{innermost_meets, is_written}
@@ -201,3 +202,78 @@ printed_line d (tm_abs t b) h =
 
 pub term_line : (t : Tm) → is_over_words t ≡ true → is_line (tm_text t) ≡ true
 term_line t h = (printed_line 0 t h).whole
+
+-- ---- the terms of a command
+
+list_all-append : {A : Type 0} (p : A → Bool) (xs ys : List A) → list_all p xs ≡ true → list_all p ys ≡ true → list_all p (xs ++ ys) ≡ true
+list_all-append p [] ys h k = k
+list_all-append p (x ∷ xs) ys h k = let q = and_parts (p x) (list_all p xs) h in and_from (p x) (list_all p (xs ++ ys)) q.0 (list_all-append p xs ys q.1 k)
+
+var_simple : (v : Ty) (seen : List Ty) → is_simple v ≡ true → list_all is_simple seen ≡ true → list_all is_simple (with_var v seen) ≡ true
+var_simple v seen s h = at (is_among v seen)
+  where
+    at : (b : Bool) → list_all is_simple (cond b seen (seen ++ v ∷ [])) ≡ true
+    at true = h
+    at false = list_all-append is_simple seen (v ∷ []) h (and_from (is_simple v) true s refl)
+
+mutual
+  pub vars_simple : (t : Ty) (seen : List Ty) → is_simple t ≡ true → list_all is_simple seen ≡ true → list_all is_simple (ty_vars t seen) ≡ true
+  vars_simple (ty_var n) seen s h = var_simple (ty_var n) seen s h
+  vars_simple (ty_app c ts) seen s h = all_vars_simple ts seen (and_parts (is_start_type c (tys_count ts)) (are_simple ts) s).1 h
+
+  pub all_vars_simple : (ts : Tys) (seen : List Ty) → are_simple ts ≡ true → list_all is_simple seen ≡ true → list_all is_simple (tys_vars ts seen) ≡ true
+  all_vars_simple no_tys seen s h = h
+  all_vars_simple (more_tys t ts) seen s h = let p = and_parts (is_simple t) (are_simple ts) s in all_vars_simple ts (ty_vars t seen) p.1 (vars_simple t seen p.0 h)
+
+pub own_const_words : (c : Name) (g : Ty) → is_word c ≡ true → is_simple g ≡ true → is_over_words (own_const c g) ≡ true
+own_const_words c g w s = and_from (is_word c) (list_all is_simple (ty_vars g [])) w (vars_simple g [] s refl)
+
+pub eq_words : (s t : Tm) → is_simple (tm_type s) ≡ true → is_over_words s ≡ true → is_over_words t ≡ true → is_over_words (eq_tm s t) ≡ true
+eq_words s t ty a b =
+    let sign : is_over_words (tm_const (codes "eq") (tm_type s ∷ []) (tm_type s)) ≡ true = and_from (is_simple (tm_type s)) true ty refl in
+    and_from (is_over_words (tm_const (codes "eq") (tm_type s ∷ []) (tm_type s)) && is_over_words s) (is_over_words t) (and_from (is_over_words (tm_const (codes "eq") (tm_type s ∷ []) (tm_type s))) (is_over_words s) sign a) b
+
+bind_words : (k : ℕ) (v : FreeVar) (t : Tm) → is_over_words t ≡ true → is_over_words (tm_bind k v t) ≡ true
+bind_words k v (tm_index i t) h = refl
+bind_words k v (tm_free w) h = at (var_eq v w)
+  where
+    at : (b : Bool) → is_over_words (cond b (tm_index k w.ty) (tm_free w)) ≡ true
+    at true = refl
+    at false = h
+bind_words k v (tm_const c ts t) h = h
+bind_words k v (tm_comb f x) h = let p = and_parts (is_over_words f) (is_over_words x) h in and_from (is_over_words (tm_bind k v f)) (is_over_words (tm_bind k v x)) (bind_words k v f p.0) (bind_words k v x p.1)
+bind_words k v (tm_abs t b) h = let p = and_parts (is_simple t) (is_over_words b) h in and_from (is_simple t) (is_over_words (tm_bind (k + 1) v b)) p.0 (bind_words (k + 1) v b p.1)
+
+lambdas_words : (vs : List FreeVar) (t : Tm) → list_all is_binder vs ≡ true → is_over_words t ≡ true → is_over_words (lambdas vs t) ≡ true
+lambdas_words [] t h k = k
+lambdas_words (v ∷ vs) t h k =
+    let p = and_parts (is_binder v) (list_all is_binder vs) h in
+    let q = and_parts (is_word v.name && not (is_keyword v.name)) (is_simple v.ty) p.0 in
+    and_from (is_simple v.ty) (is_over_words (tm_bind 0 v (lambdas vs t))) q.1 (bind_words 0 v (lambdas vs t) (lambdas_words vs t p.1 k))
+
+meaning_words : (n : Name) (vs : List FreeVar) → list_all is_binder vs ≡ true → is_word n ≡ true → (o : Option FreeVar) → innermost n vs ≡ o → is_over_words (meaning_of o n) ≡ true
+meaning_words n vs h w (Some v) e =
+    let m = innermost_meets n vs v h e in
+    let q = and_parts (is_word v.name && not (is_keyword v.name)) (is_simple v.ty) m.0 in
+    and_from (is_word v.name) (is_simple v.ty) (and_parts (is_word v.name) (not (is_keyword v.name)) q.0).0 q.1
+meaning_words n vs h w None e = and_from (is_word n) true w refl
+
+pub term_words : (d : Define) → IsDefine d → is_over_words (term_of d) ≡ true
+term_words d h = lambdas_words d.binders (meaning_of (innermost d.last d.binders) d.last) h.binders_are (meaning_words d.last d.binders h.binders_are (is_written d h).last (innermost d.last d.binders) refl)
+
+-- the texts that are printed of a command
+pub record AreLines (d : Define) : Type 0 where
+  pub name : is_line d.name ≡ true
+  pub ty : is_line (ty_text d.ty) ≡ true
+  pub body : is_line (tm_text (term_of d)) ≡ true
+  pub fact : is_line (tm_text (eq_tm (own_const d.name d.ty) (term_of d))) ≡ true
+
+pub command_lines : (d : Define) → IsDefine d → AreLines d
+command_lines d h =
+    let own = own_const d.name d.ty in
+    record {
+      name = word_line d.name h.word;
+      ty = type_line d.ty h.simple;
+      body = term_line (term_of d) (term_words d h);
+      fact = term_line (eq_tm own (term_of d)) (eq_words own (term_of d) h.simple (own_const_words d.name d.ty h.word h.simple) (term_words d h));
+    }
