@@ -1,10 +1,9 @@
 -- Abstractions over variables: they are well typed, and bind what they are to bind.
-use Rattle.std.proofs.Common.{◌≡◌, ◌≢◌, refl, sym, ap, ◌∙◌, subst, ℕ, zero, suc, ◌+◌, ◌≤◌, ◌<◌, Bool, true, false, cond, ◌&&◌, ◌||◌, List, [], ◌∷◌, ◌++◌, length, Option, Some, None, arith}
+use Rattle.std.proofs.Common.{◌≡◌, refl, ap, ◌∙◌, subst, ℕ, zero, suc, ◌+◌, Bool, true, false, cond, ◌||◌, List, [], ◌∷◌, ◌++◌, length, Option, Some, None, arith}
 use Rattle.std.specs.Prelude.{bytes_eq, slice_get}
-use Rattle.std.specs.Ordering.{is_eq, nat_cmp, ordering_then}
 use Rattle.std.specs.declared.cmp.Ordering.TheVariants.{Equal}
 use Rattle.std.specs.Cmp.Lexicographic.{nat_list_cmp_total}
-use Rattle.std.proofs.lemmas.Bool.{and_parts, and_from, or_left, or_right, or_cases, or_parts, or_from, true≢false}
+use Rattle.std.proofs.lemmas.Bool.{and_parts, and_from, or_left, or_right, or_parts, or_from}
 use Rattle.std.proofs.lemmas.Slice.Eq.{bytes_eq-Decides}
 use Rattle.hol_terms.specs.Name.{Name}
 use Rattle.hol_terms.specs.Ty.{Ty, ty_var, ty_app, Tys, no_tys, more_tys, tys}
@@ -12,8 +11,7 @@ use Rattle.hol_terms.specs.Tm.{Tm, tm_index, tm_free, tm_const, tm_comb, tm_abs,
 use Rattle.hol_terms.specs.Typing.{tm_type, range_ty, fun_ty}
 use Rattle.hol_terms.specs.TyVars.{occurs, occurs_in, ty_within, tys_within, tm_within}
 use Rattle.hol_terms.specs.Subst.{name_cmp, ty_cmp}
-use Rattle.hol_terms.specs.Binding.{tm_bind, var_eq, var_cmp}
-use Rattle.hol_terms.specs.Rules.{lambda}
+use Rattle.hol_terms.specs.Binding.{tm_bind, var_eq}
 use Rattle.hol_terms.specs.Signature.{Signature, IsTyOver, IsOver}
 use Rattle.hol_terms.specs.Definition.{has_frees}
 use Rattle.hol_terms.proofs.Order.{var_eq-same}
@@ -180,5 +178,5 @@ lambdas_within (v ∷ vs) t h =
     let types : tm_type b ≡ tm_type r = tm_type-bind 0 v r in
     let inner : tm_within b (tm_type b) ≡ true = rw types (within-bind 0 v r (tm_type r) (lambdas_within vs t h)) in
     and_from (ty_within v.ty (fun_ty v.ty (tm_type b))) (tm_within b (fun_ty v.ty (tm_type b)))
-      (within_more v.ty v.ty (fun_ty v.ty (tm_type b)) (in_domain v.ty (tm_type b)) (ty_within-self v.ty))
-      (term_within_more b (tm_type b) (fun_ty v.ty (tm_type b)) (in_range v.ty (tm_type b)) inner)
+    (within_more v.ty v.ty (fun_ty v.ty (tm_type b)) (in_domain v.ty (tm_type b)) (ty_within-self v.ty))
+    (term_within_more b (tm_type b) (fun_ty v.ty (tm_type b)) (in_range v.ty (tm_type b)) inner)

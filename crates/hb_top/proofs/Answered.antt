@@ -55,7 +55,7 @@ meeting s d q h =
     let new : is_new s d.name ≡ true = subst (λ (x : Signature). is_new x d.name ≡ true) (sym q) h.new in
     let tie : is_eq (ty_cmp (tm_type (term_of d)) d.ty) ≡ true = ap (λ (t : Ty). is_eq (ty_cmp t d.ty)) h.typed ∙ ap is_eq (ty_cmp-self d.ty) in
     and_from (may_define s d.name && is_known (innermost d.last d.binders) d.last) (is_eq (ty_cmp (tm_type (term_of d)) d.ty))
-      (and_from (may_define s d.name) (is_known (innermost d.last d.binders) d.last) (and_from (not (is_keyword d.name || is_reserved d.name)) (is_new s d.name) (not_from_false (is_keyword d.name || is_reserved d.name) h.free) new) h.known) tie
+    (and_from (may_define s d.name) (is_known (innermost d.last d.binders) d.last) (and_from (not (is_keyword d.name || is_reserved d.name)) (is_new s d.name) (not_from_false (is_keyword d.name || is_reserved d.name) h.free) new) h.known) tie
 
 pub record IsCommand (bs : Text) (d : Define) : Type 0 where
   pub text : bs ≡ define_text d

@@ -31,10 +31,10 @@ binder_joined name ty bs typed v rest r a b c d e =
     let u : FreeVar = record { name = name.0; ty = ty.0 } in
     let g = none_if (is_keyword name.0) (some (u, rest)) (v, r) e in
     let parts : bs ≡ name.0 ++ (codes ":" ++ (ty_text ty.0 ++ (codes ". " ++ rest))) =
-        w.0 ∙ ap (λ (x : Text). name.0 ++ x) (colon ∙ ap (λ (x : Text). codes ":" ++ x) (c.text ∙ ap (λ (x : Text). ty_text ty.0 ++ x) dot)) in
+    w.0 ∙ ap (λ (x : Text). name.0 ++ x) (colon ∙ ap (λ (x : Text). codes ":" ++ x) (c.text ∙ ap (λ (x : Text). ty_text ty.0 ++ x) dot)) in
     let word : (is_word name.0 && not (is_keyword name.0)) ≡ true = and_from (is_word name.0) (not (is_keyword name.0)) w.1 (not_from_false (is_keyword name.0) g.0) in
     subst (λ (p : FreeVar × Text). IsBinderAt bs p.0 p.1) (same_some (u, rest) (v, r) g.1)
-      (record { text = ap (λ (x : Text). codes "\\" ++ x) parts ∙ sym (binder_text-parts u rest); meets = and_from (is_word name.0 && not (is_keyword name.0)) (is_simple ty.0) word c.simple })
+    (record { text = ap (λ (x : Text). codes "\\" ++ x) parts ∙ sym (binder_text-parts u rest); meets = and_from (is_word name.0 && not (is_keyword name.0)) (is_simple ty.0) word c.simple })
 
 binder_takes : (n : ℕ) (bs : Text) (v : FreeVar) (r : Text) → binder_at n bs ≡ Some (v, r) → IsBinderAt bs v r
 unfolding binder_at
@@ -56,9 +56,9 @@ binder_and_others : (v : FreeVar × Text) (vs : List FreeVar × Text) (named bs 
     IsBinderAt named v.0 v.1 → AreBindersAt v.1 vs.0 vs.1 → some {A = List FreeVar × Text} (v.0 ∷ vs.0, vs.1) ≡ Some (us, r) → AreBindersAt bs us r
 binder_and_others v vs named bs us r q h k e =
     let parts : bs ≡ flat_map binder_text (v.0 ∷ vs.0) ++ vs.1 =
-        after_takes (codes "\\") bs named q ∙ h.text ∙ ap (λ (x : Text). binder_text v.0 ++ x) k.text ∙ sym (append_assoc (binder_text v.0) (flat_map binder_text vs.0) vs.1) in
+    after_takes (codes "\\") bs named q ∙ h.text ∙ ap (λ (x : Text). binder_text v.0 ++ x) k.text ∙ sym (append_assoc (binder_text v.0) (flat_map binder_text vs.0) vs.1) in
     subst (λ (p : List FreeVar × Text). AreBindersAt bs p.0 p.1) (same_some (v.0 ∷ vs.0, vs.1) (us, r) e)
-      (record { text = parts; meet = and_from (is_binder v.0) (list_all is_binder vs.0) h.meets k.meet })
+    (record { text = parts; meet = and_from (is_binder v.0) (list_all is_binder vs.0) h.meets k.meet })
 
 binders_by_takes : (n : ℕ) (others : Text → Front (List FreeVar)) → TakesBinders others → (o : Option Text) (bs : Text) (vs : List FreeVar) (r : Text) → after (codes "\\") bs ≡ o →
     binders_by (binder_at n) others o bs ≡ Some (vs, r) → AreBindersAt bs vs r
@@ -121,5 +121,5 @@ parts_take n bs d e =
     let k = none_unless (length end == 0) _ d e₈ in
     let w : Define = record { name = name.0; ty = ty.0; binders = vs.0; last = last.0 } in
     subst (λ (x : Define). IsTextOf bs x) (same_some w d k.1)
-      (parts_joined bs named typed bound end name ty vs last (after_takes (codes "define ") bs named a) b (after_takes (codes " : ") name.1 typed c) (type_takes n typed ty.0 ty.1 f)
-        (after_takes (codes " = ") ty.1 bound g) (binders_takes n n bound vs.0 vs.1 h) i (after_takes (codes ";") last.1 end j) k.0)))))))))
+    (parts_joined bs named typed bound end name ty vs last (after_takes (codes "define ") bs named a) b (after_takes (codes " : ") name.1 typed c) (type_takes n typed ty.0 ty.1 f)
+    (after_takes (codes " = ") ty.1 bound g) (binders_takes n n bound vs.0 vs.1 h) i (after_takes (codes ";") last.1 end j) k.0)))))))))

@@ -1,20 +1,20 @@
 -- What a command defines may be defined.
-use Rattle.std.proofs.Common.{◌≡◌, ◌≢◌, refl, sym, ap, ◌∙◌, subst, ℕ, zero, suc, ◌+◌, ◌≤◌, ◌<◌, Bool, true, false, cond, not, ◌&&◌, ◌||◌, ◌==◌, List, [], ◌∷◌, length, Option, Some, None, ◌⊎◌, inl, inr, arith, eqb-true}
+use Rattle.std.proofs.Common.{◌≡◌, refl, sym, ap, ◌∙◌, subst, ℕ, zero, suc, ◌≤◌, Bool, true, false, cond, not, ◌&&◌, ◌||◌, ◌==◌, List, [], ◌∷◌, Option, Some, None, inl, inr, arith, eqb-true}
 use Rattle.std.specs.Prelude.{bytes_eq, codes}
 use Rattle.std.specs.List.{list_all}
 use Rattle.std.specs.Char.{is_ascii_alphabetic}
-use Rattle.std.proofs.lemmas.Bool.{true≢false, and_parts, and_from, or_cases, or_parts, or_left, not-true, not_from_false}
+use Rattle.std.proofs.lemmas.Bool.{true≢false, and_parts, and_from, or_cases, or_parts, or_left, not_from_false}
 use Rattle.hol_terms.specs.Name.{Name, is_keyword, is_numbered, is_name}
 use Rattle.hol_terms.specs.Ty.{Ty, ty_var, ty_app, Tys, no_tys, more_tys, ty_size}
-use Rattle.hol_terms.specs.Tm.{Tm, tm_free, tm_const, FreeVar}
+use Rattle.hol_terms.specs.Tm.{Tm, tm_const, FreeVar}
 use Rattle.hol_terms.specs.Typing.{tm_type, fun_name}
 use Rattle.hol_terms.specs.TyVars.{tm_within}
-use Rattle.hol_terms.specs.Signature.{Signature, arity_of, generic_of, tys_count, IsTyOver, IsConstOver, IsOver, may_introduce, is_new}
+use Rattle.hol_terms.specs.Signature.{Signature, generic_of, IsTyOver, IsConstOver, IsOver, is_new}
 use Rattle.hol_terms.specs.Definition.{Definition, bool_ty, signature_of, has_frees}
 use Rattle.hol_terms.specs.Proves.{IsConstDef}
 use Rattle.hol_terms.specs.Base.{base, base_definitions}
 use Rattle.hol_terms.proofs.BaseOpened.{opened_bases}
-use Rattle.hol_terms.proofs.AsciiNames.{are_ascii_segments, is_ascii_start, is_ascii_more, is_ascii_name, is_ascii_segment, is_segment_from_ascii, is_name_from_ascii}
+use Rattle.hol_terms.proofs.AsciiNames.{are_ascii_segments, is_ascii_start, is_ascii_more, is_ascii_segment, is_segment_from_ascii, is_name_from_ascii}
 use Rattle.hb_top.specs.Command.{Define, IsDefine, term_of, lambdas, innermost, meaning_of, is_known, is_binder, is_simple, is_word, is_word_character, is_reserved}
 use Rattle.hb_top.proofs.Types.{Applied, no_argument, two_arguments, applied_is, plain_cases, same_name}
 use Rattle.hb_top.proofs.Written.{innermost_meets}
@@ -100,10 +100,10 @@ leaf_is n vs h (Some v) e k =
     record { typed = (word_is_name v.name w.0 w.1, simple_over (base 10) v.ty q.1); covered = ty_within-self v.ty; closed = innermost_bound n vs v e }
 leaf_is n vs h None e k =
     let truth : generic_of (signature_of (base 10)) n ≡ Some bool_ty =
-      elim (or_cases (bytes_eq n (codes "T")) (bytes_eq n (codes "F")) k) [
-        | inl q ↦ subst (λ (m : Name). generic_of (signature_of (base 10)) m ≡ Some bool_ty) (sym (same_name n (codes "T") q)) known_T
-        | inr q ↦ subst (λ (m : Name). generic_of (signature_of (base 10)) m ≡ Some bool_ty) (sym (same_name n (codes "F") q)) known_F
-      ] in
+    elim (or_cases (bytes_eq n (codes "T")) (bytes_eq n (codes "F")) k) [
+      | inl q ↦ subst (λ (m : Name). generic_of (signature_of (base 10)) m ≡ Some bool_ty) (sym (same_name n (codes "T") q)) known_T
+      | inr q ↦ subst (λ (m : Name). generic_of (signature_of (base 10)) m ≡ Some bool_ty) (sym (same_name n (codes "F") q)) known_F
+    ] in
     record { typed = truth_over (signature_of (base 10)) n truth (simple_over (base 10) bool_ty refl); covered = refl; closed = lambdas_frees vs (tm_const n [] bool_ty) refl }
 
 -- a command defines a new constant: its term is well typed and closed, and has no type variable that its type lacks

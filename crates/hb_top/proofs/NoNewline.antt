@@ -1,5 +1,5 @@
 -- The texts of words, simple types, and terms over them have no newline.
-use Rattle.std.proofs.Common.{◌≡◌, ◌≢◌, refl, sym, ap, ◌∙◌, subst, ℕ, zero, suc, ◌+◌, ◌-◌, ◌/◌, ◌%◌, ◌≤◌, ◌<◌, Bool, true, false, cond, not, ◌&&◌, ◌||◌, ◌==◌, List, [], ◌∷◌, ◌++◌, length, Option, Some, None, ◌⊎◌, inl, inr, arith, eqb-true, nat_lt}
+use Rattle.std.proofs.Common.{◌≡◌, refl, sym, ap, ◌∙◌, subst, ℕ, zero, suc, ◌+◌, ◌-◌, ◌/◌, ◌%◌, ◌≤◌, Bool, true, false, cond, not, ◌&&◌, ◌==◌, List, [], ◌∷◌, ◌++◌, Option, Some, None, inl, inr, arith, eqb-true, nat_lt}
 use Rattle.std.specs.Prelude.{bytes_eq, codes}
 use Rattle.std.specs.List.{list_all, flat_map}
 use Rattle.std.specs.Fmt.{decimal, digits, digits_onto, digit_glyph}
@@ -7,12 +7,11 @@ use Rattle.std.proofs.lemmas.Bool.{true≢false, and_parts, and_from, not_from_f
 use Rattle.hol_terms.specs.Name.{Name, is_numbered, is_keyword}
 use Rattle.hol_terms.specs.Ty.{Ty, ty_var, ty_app, Tys, no_tys, more_tys, tys, ty_size}
 use Rattle.hol_terms.specs.Tm.{Tm, tm_index, tm_free, tm_const, tm_comb, tm_abs, FreeVar}
-use Rattle.hol_terms.specs.Typing.{tm_type, fun_name, fun_ty}
+use Rattle.hol_terms.specs.Typing.{tm_type, fun_name}
 use Rattle.hol_terms.specs.TyVars.{ty_vars, tys_vars, with_var, is_among, own_const}
 use Rattle.hol_terms.specs.Binding.{tm_bind, var_eq}
 use Rattle.hol_terms.specs.Sequent.{eq_tm, argument}
-use Rattle.hol_terms.specs.Definition.{bool_ty}
-use Rattle.hol_terms.specs.Text.{Text, ty_text, tys_texts, parenthesized, with_commas, with_arguments, bound_text, Sugar, between, before, binding, none, sign_between, sign_binding, sign_before, sugar, whole_text, is_plain, is_atom, is_function, Printed, printed, tm_text}
+use Rattle.hol_terms.specs.Text.{Text, ty_text, tys_texts, parenthesized, with_arguments, bound_text, Sugar, between, before, binding, none, sign_between, sign_binding, sign_before, sugar, whole_text, is_plain, is_atom, is_function, Printed, printed, tm_text}
 use Rattle.hol_terms.specs.Signature.{tys_count}
 use Rattle.hb_top.specs.Command.{Define, IsDefine, term_of, lambdas, innermost, meaning_of, is_binder, is_simple, are_simple, is_start_type, is_word, is_word_character}
 use Rattle.hb_top.proofs.FrontLemmas.{is_word-all}
@@ -54,7 +53,7 @@ applied_line n h c ts l (two_arguments a b sa sb p q) =
     let P : Name → Tys → Type 0 = λ m us. is_line (ty_text (ty_app m us)) ≡ true in
     let x = parenthesized (is_function a) (ty_text a) in
     let here : P fun_name (more_tys a (more_tys b no_tys)) =
-        line_append (x ++ codes " -> ") (ty_text b) (line_append x (codes " -> ") (parenthesized_line (is_function a) (ty_text a) (h a (omega arith) sa)) refl) (h b (omega arith) sb) in
+    line_append (x ++ codes " -> ") (ty_text b) (line_append x (codes " -> ") (parenthesized_line (is_function a) (ty_text a) (h a (omega arith) sa)) refl) (h b (omega arith) sb) in
     subst (P c) (sym q) (subst (λ (m : Name). P m (more_tys a (more_tys b no_tys))) (sym p) here)
 
 type_line_below : (n : ℕ) (t : Ty) → ty_size t ≤ n → is_simple t ≡ true → is_line (ty_text t) ≡ true
@@ -169,7 +168,7 @@ arguments_line c (t ∷ ts) h k =
     let p = and_parts (is_simple t) (list_all is_simple ts) k in
     let inner = ty_text t ++ flat_map (λ y. codes "," ++ y) (tys_texts (tys ts)) in
     line_append (c ++ codes "{" ++ inner) (codes "}")
-      (line_append (c ++ codes "{") inner (line_append c (codes "{") h refl) (line_append (ty_text t) (flat_map (λ y. codes "," ++ y) (tys_texts (tys ts))) (type_line t p.0) (commas_line ts p.1))) refl
+    (line_append (c ++ codes "{") inner (line_append c (codes "{") h refl) (line_append (ty_text t) (flat_map (λ y. codes "," ++ y) (tys_texts (tys ts))) (type_line t p.0) (commas_line ts p.1))) refl
 
 bound_line : (d : ℕ) → is_line (bound_text d) ≡ true
 bound_line d = line_append (codes "x") (decimal d) refl (decimal_line d)
@@ -180,7 +179,7 @@ printed_line d (tm_free v) h =
     let p = and_parts (is_word v.name) (is_simple v.ty) h in
     record {
       whole = line_append (codes "[" ++ v.name ++ codes ":" ++ ty_text v.ty) (codes "]")
-        (line_append (codes "[" ++ v.name ++ codes ":") (ty_text v.ty) (line_append (codes "[" ++ v.name) (codes ":") (line_append (codes "[") v.name refl (word_line v.name p.0)) refl) (type_line v.ty p.1)) refl;
+          (line_append (codes "[" ++ v.name ++ codes ":") (ty_text v.ty) (line_append (codes "[" ++ v.name) (codes ":") (line_append (codes "[") v.name refl (word_line v.name p.0)) refl) (type_line v.ty p.1)) refl;
       operand = refl;
       scope = refl;
     }

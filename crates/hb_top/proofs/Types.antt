@@ -53,7 +53,7 @@ variable_takes named t r e =
     let same = same_some (ty_var b.0.0, b.0.1) (t, r) g.1 in
     let w = word_takes named b.0.0 b.0.1 b.1 in
     subst (λ (p : Ty × Text). IsAtom (39 ∷ named) p.0 p.1) same
-      (record { text = ap (λ (x : Text). 39 ∷ x) w.0; simple = and_from (is_word b.0.0) (not (is_numbered b.0.0)) w.1 (not_from_false (is_numbered b.0.0) g.0); no_function = refl })
+    (record { text = ap (λ (x : Text). 39 ∷ x) w.0; simple = and_from (is_word b.0.0) (not (is_numbered b.0.0)) w.1 (not_from_false (is_numbered b.0.0) g.0); no_function = refl })
 
 plain_takes : (bs : Text) (t : Ty) (r : Text) → (word_at bs >>= plain_of) ≡ Some (t, r) → IsAtom bs t r
 plain_takes bs t r e =
@@ -62,7 +62,7 @@ plain_takes bs t r e =
     let same = same_some (ty_app b.0.0 no_tys, b.0.1) (t, r) g.1 in
     let w = word_takes bs b.0.0 b.0.1 b.1 in
     subst (λ (p : Ty × Text). IsAtom bs p.0 p.1) same
-      (record { text = w.0; simple = and_from (is_start_type b.0.0 0) true (plain_start b.0.0 g.0) refl; no_function = refl })
+    (record { text = w.0; simple = and_from (is_start_type b.0.0 0) true (plain_start b.0.0 g.0) refl; no_function = refl })
 
 atom_by_takes : (o : Option Text) (bs : Text) (t : Ty) (r : Text) → after (codes "'") bs ≡ o → atom_by o bs ≡ Some (t, r) → IsAtom bs t r
 atom_by_takes (Some named) bs t r q e = subst (λ (x : Text). IsAtom x t r) (sym (after_takes (codes "'") bs named q)) (variable_takes named t r e)

@@ -34,7 +34,7 @@ binders_by_again : (m n : ℕ) (v : FreeVar) (vs : List FreeVar) (r : Text) → 
 binders_by_again m n v vs r e l h =
     let rest = flat_map binder_text vs ++ r in
     let parts : flat_map binder_text (v ∷ vs) ++ r ≡ codes "\\" ++ (v.name ++ (codes ":" ++ (ty_text v.ty ++ (codes ". " ++ rest)))) =
-        append_assoc (binder_text v) (flat_map binder_text vs) r ∙ binder_text-parts v rest in
+    append_assoc (binder_text v) (flat_map binder_text vs) r ∙ binder_text-parts v rest in
     ap (λ (x : Text). binders_by (binder_at m) (binders_at m n) (after (codes "\\") x) x) parts ∙ rw (binder_again m v rest e l, h) refl
 
 binders_again : (m n : ℕ) (vs : List FreeVar) (r : Text) → list_all is_binder vs ≡ true → length (flat_map binder_text vs) ≤ m → length (flat_map binder_text vs) < n → after (codes "\\") r ≡ None →

@@ -154,7 +154,11 @@ fn is_function(t: &HolType) -> bool
 
 /// The type in front that is nested less deep than `fuel`.
 #[tactic(auto, using(crate::proofs::Steps::type_step, crate::proofs::Steps::type_none))]
-pub(crate) fn type_at<'a>(alloc: Global, fuel: usize, bytes: &'a [u8]) -> Result<(HolType, &'a [u8]), ReadError>
+pub(crate) fn type_at<'a>(
+    alloc: Global,
+    fuel: usize,
+    bytes: &'a [u8],
+) -> Result<(HolType, &'a [u8]), ReadError>
     ensures { Gives (λ x. (x.0, x.1.now)) result (type_at fuel bytes.now) }
 {
     if fuel == 0 {

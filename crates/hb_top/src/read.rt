@@ -39,11 +39,7 @@ struct Parts {
 
 /// A binder behind its `\`.
 #[tactic(auto, unfolding(crate::specs::Reading::binder_at))]
-fn binder_at<'a>(
-    alloc: Global,
-    fuel: usize,
-    bytes: &'a [u8],
-) -> Result<(Var, &'a [u8]), ReadError>
+fn binder_at<'a>(alloc: Global, fuel: usize, bytes: &'a [u8]) -> Result<(Var, &'a [u8]), ReadError>
     ensures { Gives (λ x. (x.0, x.1.now)) result (binder_at fuel bytes.now) }
 {
     let (name, rest) = word_at(bytes)?;
