@@ -1,3 +1,15 @@
 pub mod BuildingLemmas
 pub mod OutputLines
 pub mod Outputs
+pub mod FrontLemmas
+pub mod Types
+pub mod Commands
+pub mod Written
+pub mod Words
+pub mod Steps
+pub mod Binders
+pub mod BinderLoop
+pub mod Answered
+pub mod Abstractions
+pub mod Defined
+pub mod NoNewline

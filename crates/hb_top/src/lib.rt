@@ -2,3 +2,5 @@
 #![tactic(auto)]
 
 mod base;
+mod fronts;
+mod read;
