@@ -13,3 +13,4 @@ pub mod Answered
 pub mod Abstractions
 pub mod Defined
 pub mod NoNewline
+pub mod PrintLemmas

@@ -4,3 +4,4 @@
 mod base;
 mod fronts;
 mod read;
+mod print;
