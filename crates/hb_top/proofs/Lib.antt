@@ -14,3 +14,4 @@ pub mod Abstractions
 pub mod Defined
 pub mod NoNewline
 pub mod PrintLemmas
+pub mod StartLemmas

@@ -5,3 +5,5 @@ mod base;
 mod fronts;
 mod read;
 mod print;
+mod input;
+mod start;

@@ -24,3 +24,7 @@ no_fault ds c t e o =
     let closed = passed _ _ _ named.1 in
     let covered = passed _ _ _ closed.1 in
     record { named = not_false _ named.0; closed = closed.0; covered = not_false _ covered.0; typed = o }
+
+-- and what is conservative has no fault
+pub fault_free : (ds : List Definition) (c : Name) (t : Tm) → IsConstDef ds c t → const_fault ds c t ≡ None
+fault_free ds c t h = rw (h.named, h.closed, h.covered) refl
