@@ -15,3 +15,4 @@ pub mod Defined
 pub mod NoNewline
 pub mod PrintLemmas
 pub mod StartLemmas
+pub mod Checking

@@ -68,3 +68,17 @@ IsCompletion Done = Unit {0}
 IsCompletion Refused = Unit {0}
 IsCompletion Memory = Unit {0}
 IsCompletion s = ⊥
+
+-- what printing may answer
+abbrev pub IsPrinting : Status → Type 0
+IsPrinting Done = Unit {0}
+IsPrinting Refused = Unit {0}
+IsPrinting WriteFault = Unit {0}
+IsPrinting s = ⊥
+
+-- after Usage, ReadFault and Memory nothing was written
+abbrev pub IsUnwritten : Status → Option Text → Option Text → Type 0
+IsUnwritten Usage old new = new ≡ old
+IsUnwritten ReadFault old new = new ≡ old
+IsUnwritten Memory old new = new ≡ old
+IsUnwritten s old new = Unit {0}

@@ -6,3 +6,4 @@ pub mod Building
 pub mod Reading
 pub mod Reads
 pub mod Printing
+pub mod Headline

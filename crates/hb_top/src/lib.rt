@@ -3,7 +3,11 @@
 
 mod base;
 mod fronts;
-mod read;
-mod print;
 mod input;
+mod output;
+mod print;
+mod read;
 mod start;
+mod top;
+
+pub use top::{Status, hbnf};

@@ -1,8 +1,9 @@
-ghost use Rattle.std.specs.Prelude.{◌≡◌, ◌↔◌, false, true, codes, IfOk, OnOk, OnErr, OnTrue};
+ghost use Rattle.std.specs.Prelude.{◌≡◌, ◌↔◌, false, true, Some, string_bytes};
 ghost use Rattle.hb_io.specs.Faults.{Rose};
 ghost use Rattle.hb_io.specs.Told.{Appends};
 ghost use Rattle.hb_top.specs.declared.top.Status.TheVariants as status;
-ghost use Rattle.hb_top.specs.Headline.{is_check, code_of, message_of, HasAnswer, IfAnswered, Answers, Leaves, IsCompletion};
+ghost use Rattle.hb_top.specs.Headline.{is_check, code_of, message_of, HasAnswer, IfAnswered, Answers, Leaves, IsCompletion, IsPrinting, IsUnwritten};
+ghost use Rattle.hol_terms.specs.Text.{Text};
 
 use crate::input::{InputError, read_input};
 use crate::output::{Output, output_of};
@@ -107,12 +108,24 @@ fn run<S: Source, O: Sink>(alloc: Global, words: &[String], src: &mut S, out: &m
     print(&output, out)
 }
 
+/// Writes the output, and answers Done or Refused, or WriteFault where the sink failed.
 fn print<O: Sink>(output: &Output, out: &mut O) -> Status
-    ensures {..}
+    ensures written { IfAnswered result (λ refused. (output.now.refused ≡ refused) × Appends (O.kept out.old) (O.kept out.new) (string_bytes output.now.text)) }
+    ensures fault { result ≡ status.WriteFault → Rose (O.faults out.old) (O.faults out.new) }
+    ensures status { IsPrinting result }
 {
     match write_all(out, output.text.as_bytes()) {
         Err(_) => Status::WriteFault,
         Ok(()) if output.refused => Status::Refused,
         Ok(()) => Status::Done,
+    }
+}
+
+fn are_check(words: &[String]) -> bool
+    ensures { result ≡ is_check words.now }
+{
+    match words {
+        [_, mode] => mode.as_str() == "check",
+        _ => false,
     }
 }
