@@ -11,3 +11,4 @@ pub mod Answered
 pub mod Abstractions
 pub mod Defined
 pub mod NoNewline
+pub mod AroundLemmas

@@ -4,3 +4,4 @@ pub mod Layout
 pub mod Building
 pub mod Reading
 pub mod Reads
+pub mod Around
