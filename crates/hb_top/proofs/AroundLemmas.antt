@@ -113,6 +113,14 @@ pub closed : (old new : List Around) (n : ℕ) (t : Ty) (bs rest : Text) → is_
 closed old new n t bs rest e a q =
     (ap (all_outward old n) (rw (e, a) refl) ∙ sym (pushed old (Domain t) n rest) ∙ ap (λ (fs : List Around). inside fs n rest) (sym q), shorter_after (codes ") -> ") bs rest (omega arith) a)
 
+-- the ranges were taken off in a parenthesis
+pub in_parenthesis : (old new : List Around) (n : ℕ) (read : Front Ty) (dom : Ty × Text) (b : Bool) → read ≡ with_ranges b new n dom → b ≡ true → read ≡ with_ranges true new n dom
+in_parenthesis old new n read dom b e h = e ∙ ap (λ (x : Bool). with_ranges x new n dom) h
+
+pub leave_fails : (e : ReadError) (fs : List Around) (n : ℕ) (t : Ty) (bs : Text) (read : Front Ty) → read ≡ with_ranges true fs n (t, bs) → is_function t ≡ true → Fails e (after (codes ") -> ") bs) → Fails e read
+leave_fails Memory fs n t bs read q f h = tt
+leave_fails Refused fs n t bs read q f h = q ∙ not_closed fs n t bs f h
+
 pub inside_none : (n : ℕ) (bs : Text) → inside [] n bs ≡ type_at n bs
 inside_none n bs = ap (λ (k : ℕ). type_at k bs) (omega arith)
 
