@@ -1,5 +1,5 @@
 -- A type that is read inside others, with a list of what stands around it.
-use Rattle.std.proofs.Common.{◌≡◌, ◌≢◌, refl, sym, ap, ◌∙◌, subst, ℕ, zero, suc, ◌+◌, ◌-◌, ◌≤◌, ◌<◌, Bool, true, false, cond, List, [], ◌∷◌, ◌++◌, length, Option, Some, None, Result, Ok, Err, Bor, arith}
+use Rattle.std.proofs.Common.{◌≡◌, refl, sym, ap, ◌∙◌, ℕ, ◌-◌, ◌≤◌, ◌<◌, Bool, true, false, List, [], ◌∷◌, ◌++◌, length, Option, Some, None, Result, Ok, Err, Bor, arith}
 use Rattle.std.proofs.lemmas.List.{length-append}
 use Rattle.std.specs.Prelude.{codes}
 use Rattle.hol_terms.specs.Ty.{Ty, ty_var, ty_app, ty_size}
@@ -9,11 +9,11 @@ use Rattle.hb_top.specs.declared.fronts.Around.{Around}
 use Rattle.hb_top.specs.declared.fronts.Around.TheVariants.{Parenthesis, Domain}
 use Rattle.hb_top.specs.declared.fronts.ReadError.{ReadError}
 use Rattle.hb_top.specs.declared.fronts.ReadError.TheVariants.{Memory, Refused}
-use Rattle.hb_top.specs.Reading.{◌>>=◌, Front, after, atom_at, from_domain, after_domain, type_by, type_at}
+use Rattle.hb_top.specs.Reading.{Front, after, atom_at, type_by, type_at}
 use Rattle.hb_top.specs.Reads.{Fails}
 use Rattle.hb_top.specs.Around.{outward, all_outward, inside, with_ranges, Goes, Steps}
 use Rattle.hb_top.proofs.FrontLemmas.{after_takes}
-use Rattle.hb_top.proofs.Types.{IsAtom, atom_takes, size-text}
+use Rattle.hb_top.proofs.Types.{atom_takes, size-text}
 use Rattle.hb_top.proofs.Steps.{type_step}
 
 pub outward-push : (fs : List Around) (a : Around) (n : ℕ) (o : Front Ty) → all_outward (fs ++ a ∷ []) n o ≡ all_outward fs n (outward (n - length fs - 1) a o)
@@ -72,9 +72,10 @@ atom_shorter bs r t e =
 
 -- an open parenthesis
 pub opened : (old new : List Around) (n : ℕ) (bs inner : Text) → length old < n → new ≡ old ++ Parenthesis ∷ [] → after (codes "(") bs ≡ Some inner → Goes (inside old n bs) bs new n None inner
-opened old new n bs inner l p e =
-    (level old n bs l ∙ ap (λ (o : Option Text). all_outward old n (type_by (type_at (n - length old - 1)) o bs)) e ∙ sym (pushed old Parenthesis n inner) ∙ ap (λ (fs : List Around). inside fs n inner) (sym p),
-     shorter_after (codes "(") bs inner (omega arith) e)
+opened old new n bs inner l p e = (
+  level old n bs l ∙ ap (λ (o : Option Text). all_outward old n (type_by (type_at (n - length old - 1)) o bs)) e ∙ sym (pushed old Parenthesis n inner) ∙ ap (λ (fs : List Around). inside fs n inner) (sym p),
+  shorter_after (codes "(") bs inner (omega arith) e,
+)
 
 -- no type without arguments
 pub no_atom : (fs : List Around) (n : ℕ) (bs : Text) → length fs < n → after (codes "(") bs ≡ None → atom_at bs ≡ None → inside fs n bs ≡ None
@@ -83,9 +84,10 @@ no_atom fs n bs l p e = level fs n bs l ∙ ap (all_outward fs n) (rw (p, e) ref
 -- an arrow behind one
 pub domain_read : (old new : List Around) (n : ℕ) (bs rest next : Text) (dom : Ty) → length old < n → after (codes "(") bs ≡ None → atom_at bs ≡ Some (dom, rest) → after (codes " -> ") rest ≡ Some next →
     new ≡ old ++ Domain dom ∷ [] → Goes (inside old n bs) bs new n None next
-domain_read old new n bs rest next dom l p a e q =
-    (level old n bs l ∙ ap (all_outward old n) (rw (p, a, e) refl) ∙ sym (pushed old (Domain dom) n next) ∙ ap (λ (fs : List Around). inside fs n next) (sym q),
-     omega (arith, shorter_after (codes " -> ") rest next (omega arith) e, atom_shorter bs rest dom a))
+domain_read old new n bs rest next dom l p a e q = (
+  level old n bs l ∙ ap (all_outward old n) (rw (p, a, e) refl) ∙ sym (pushed old (Domain dom) n next) ∙ ap (λ (fs : List Around). inside fs n next) (sym q),
+  omega (arith, shorter_after (codes " -> ") rest next (omega arith) e, atom_shorter bs rest dom a),
+)
 
 -- none behind one
 pub atom_read : (fs : List Around) (n : ℕ) (bs rest : Text) (t : Ty) → length fs < n → after (codes "(") bs ≡ None → atom_at bs ≡ Some (t, rest) → after (codes " -> ") rest ≡ None →

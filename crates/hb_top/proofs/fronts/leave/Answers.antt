@@ -1,6 +1,5 @@
-use Rattle.std.proofs.Common.{◌≡◌, ◌∙◌, sym, Some, None}
+use Rattle.std.proofs.Common.{◌∙◌, sym}
 use Rattle.std.proofs.lemmas.Result.{err_from_is_err_and}
-use Rattle.hb_top.specs.Around.{all_outward, with_ranges}
 use Rattle.hb_top.proofs.AroundLemmas.{in_parenthesis, no_function, leave_fails}
 use Rattle.hb_top.proofs.fronts.leave.Goals as goal
 
