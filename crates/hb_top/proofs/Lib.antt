@@ -1,4 +1,6 @@
 pub mod BuildingLemmas
+pub mod OutputLines
+pub mod Outputs
 pub mod FrontLemmas
 pub mod Types
 pub mod Commands
@@ -12,3 +14,5 @@ pub mod Abstractions
 pub mod Defined
 pub mod NoNewline
 pub mod AroundLemmas
+pub mod PrintLemmas
+pub mod StartLemmas

@@ -1,7 +1,9 @@
 pub mod Command
 pub mod Answer
 pub mod Layout
+pub mod Outcome
 pub mod Building
 pub mod Reading
 pub mod Reads
 pub mod Around
+pub mod Printing

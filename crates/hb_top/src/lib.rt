@@ -4,3 +4,6 @@
 mod base;
 mod fronts;
 mod read;
+mod print;
+mod input;
+mod start;
