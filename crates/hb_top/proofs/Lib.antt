@@ -13,6 +13,7 @@ pub mod Answered
 pub mod Abstractions
 pub mod Defined
 pub mod NoNewline
+pub mod AroundLemmas
 pub mod PrintLemmas
 pub mod StartLemmas
 pub mod Checking

@@ -1,5 +1,5 @@
 -- One level of the reader's recursion.
-use Rattle.std.proofs.Common.{◌≡◌, refl, sym, ap, ◌∙◌, ℕ, zero, suc, ◌-◌, ◌<◌, true, List, [], ◌∷◌, length, None, nat_eq, arith}
+use Rattle.std.proofs.Common.{◌≡◌, refl, sym, ap, ◌∙◌, ℕ, zero, suc, ◌-◌, ◌<◌, true, List, [], ◌∷◌, length, nat_eq, arith}
 use Rattle.std.proofs.lemmas.Bool.{ne_eqb}
 use Rattle.std.specs.Prelude.{codes, bytes_eq}
 use Rattle.hol_terms.specs.Name.{Name}
@@ -13,11 +13,6 @@ type_step zero bs h = absurd (omega arith)
 type_step (suc n) bs h =
     let e : n ≡ suc n - 1 = omega arith in
     ap (λ (k : ℕ). type_by (type_at k) (after (codes "(") bs) bs) e
-
-pub type_none : (n : ℕ) (bs : Text) → n ≡ 0 → type_at n bs ≡ None
-unfolding type_at
-type_none zero bs h = refl
-type_none (suc n) bs h = absurd (omega arith)
 
 function_args : (c : Name) (ts : List Ty) → bytes_eq c (codes "fun") ≡ true → nat_eq (length ts) 2 ≡ is_function (ty_app c (tys ts))
 function_args c [] e = refl

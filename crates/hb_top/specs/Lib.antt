@@ -5,5 +5,6 @@ pub mod Outcome
 pub mod Building
 pub mod Reading
 pub mod Reads
+pub mod Around
 pub mod Printing
 pub mod Headline

@@ -1,6 +1,6 @@
 //! Reads what stands in front of a text: a word, a type.
 
-ghost use Rattle.std.specs.Prelude.{◌≡◌, ◌||◌, ◌==◌, codes};
+ghost use Rattle.std.specs.Prelude.{◌≡◌, ◌||◌, ◌==◌, ◌<◌, ℕ, List, Some, None, length, IfOk, codes};
 ghost use Rattle.std.specs.Char.{is_ascii_alphabetic};
 ghost use Rattle.std.specs.List.{list_all};
 ghost use Rattle.std.specs.Option.{option_copied};
@@ -8,6 +8,7 @@ ghost use Rattle.hol_terms.specs.Text.{is_function};
 ghost use Rattle.hb_top.specs.Command.{is_word, is_word_character};
 ghost use Rattle.hb_top.specs.Reading.{after, word_length, word_at, is_plain_type, variable_at, plain_at, atom_at, type_at};
 ghost use Rattle.hb_top.specs.Reads.{Gives};
+ghost use Rattle.hb_top.specs.Around.{all_outward, inside, with_ranges, Steps};
 ghost use Rattle.hb_top.specs.declared.fronts.ReadError.TheVariants.{Memory};
 
 use hol_terms::names::is_numbered;
@@ -152,8 +153,105 @@ fn is_function(t: &HolType) -> bool
     }
 }
 
-/// The type in front that is nested less deep than `fuel`.
-#[tactic(auto, using(crate::proofs::Steps::type_step, crate::proofs::Steps::type_none))]
+/// What stands around a type that is being read.
+#[derive(Drop)]
+enum Around {
+    /// An open parenthesis.
+    Parenthesis,
+    /// A function type's domain, before the type as its range.
+    Domain(HolType),
+}
+
+/// The type as the range of the domains around it, and whether a parenthesis stands around them. Takes these off.
+#[tactic(auto, using(crate::proofs::AroundLemmas::ranges_lemmas))]
+fn with_ranges(
+    alloc: Global,
+    around: &mut Vec<Around>,
+    ran: HolType,
+) -> Result<(HolType, bool), AllocError>
+    ensures { IfOk result (λ p. (n : ℕ) (r : List ℕ) → all_outward around.old.items n (Some (ran, r)) ≡ with_ranges p.1 around.new.items n (p.0, r)) }
+{
+    let mut whole = ran;
+    loop {
+        match around.pop() {
+            Some(Around::Domain(dom)) => whole = HolType::fun(alloc, &dom, &whole)?,
+            Some(Around::Parenthesis) => return Ok((whole, true)),
+            None => return Ok((whole, false)),
+        }
+    }
+}
+
+/// Goes on behind a type that no arrow follows: it is the range of the domains around it, and in a parenthesis then the
+/// domain of what comes next.
+#[tactic(auto, using(crate::proofs::AroundLemmas::step_lemmas))]
+fn leave<'a>(
+    alloc: Global,
+    fuel: usize,
+    around: &mut Vec<Around>,
+    ran: HolType,
+    bytes: &'a [u8],
+) -> Result<(Option<HolType>, &'a [u8]), ReadError>
+    ensures { Steps (all_outward around.old.items fuel (Some (ran, bytes.now))) bytes.now around.new.items fuel result }
+{
+    let (whole, in_parenthesis) = with_ranges(alloc, around, ran)?;
+    if !in_parenthesis {
+        return Ok((Some(whole), bytes));
+    }
+    if !is_function(&whole) {
+        return Err(ReadError::Refused);
+    }
+    let rest = skip(bytes, b") -> ")?;
+    around.push(Around::Domain(whole))?;
+    Ok((None, rest))
+}
+
+/// Reads a type without arguments, and goes on behind it.
+#[tactic(auto, using(crate::proofs::AroundLemmas::step_lemmas))]
+fn pass_atom<'a>(
+    alloc: Global,
+    fuel: usize,
+    around: &mut Vec<Around>,
+    bytes: &'a [u8],
+) -> Result<(Option<HolType>, &'a [u8]), ReadError>
+    requires room { length around.old.items < fuel }
+    requires bare { after (codes "(") bytes.now ≡ None }
+    ensures { Steps (inside around.old.items fuel bytes.now) bytes.now around.new.items fuel result }
+{
+    let (atom, rest) = atom_at(alloc, bytes)?;
+    match strip(rest, b" -> ") {
+        Some(next) => {
+            around.push(Around::Domain(atom))?;
+            Ok((None, next))
+        }
+        None => leave(alloc, fuel, around, atom, rest),
+    }
+}
+
+/// Reads an open parenthesis, or else a type without arguments.
+#[tactic(auto, using(crate::proofs::AroundLemmas::step_lemmas))]
+fn step<'a>(
+    alloc: Global,
+    fuel: usize,
+    around: &mut Vec<Around>,
+    bytes: &'a [u8],
+) -> Result<(Option<HolType>, &'a [u8]), ReadError>
+    ensures { Steps (inside around.old.items fuel bytes.now) bytes.now around.new.items fuel result }
+{
+    if around.len() >= fuel {
+        return Err(ReadError::Refused);
+    }
+    match strip(bytes, b"(") {
+        Some(inner) => {
+            around.push(Around::Parenthesis)?;
+            Ok((None, inner))
+        }
+        None => pass_atom(alloc, fuel, around, bytes),
+    }
+}
+
+/// The type in front that is nested less deep than `fuel`. A text may nest types as deep as it is long, so there is a list of
+/// what stands around a type in place of a recursion.
+#[tactic(auto, using(crate::proofs::AroundLemmas::step_lemmas))]
 pub(crate) fn type_at<'a>(
     alloc: Global,
     fuel: usize,
@@ -161,29 +259,13 @@ pub(crate) fn type_at<'a>(
 ) -> Result<(HolType, &'a [u8]), ReadError>
     ensures { Gives (λ x. (x.0, x.1.now)) result (type_at fuel bytes.now) }
 {
-    if fuel == 0 {
-        return Err(ReadError::Refused);
-    }
-    let fuel = fuel - 1;
-    match strip(bytes, b"(") {
-        Some(inner) => {
-            let (dom, rest) = type_at(alloc, fuel, inner)?;
-            if !is_function(&dom) {
-                return Err(ReadError::Refused);
-            }
-            let rest = skip(rest, b") -> ")?;
-            let (ran, rest) = type_at(alloc, fuel, rest)?;
-            Ok((HolType::fun(alloc, &dom, &ran)?, rest))
+    let mut around = Vec::new(alloc);
+    let mut rest = bytes;
+    loop {
+        let (found, after) = step(alloc, fuel, &mut around, rest)?;
+        if let Some(whole) = found {
+            return Ok((whole, after));
         }
-        None => {
-            let (dom, rest) = atom_at(alloc, bytes)?;
-            match strip(rest, b" -> ") {
-                Some(rest) => {
-                    let (ran, rest) = type_at(alloc, fuel, rest)?;
-                    Ok((HolType::fun(alloc, &dom, &ran)?, rest))
-                }
-                None => Ok((dom, rest)),
-            }
-        }
+        rest = after;
     }
 }
