@@ -4,11 +4,11 @@ use Rattle.std.specs.Prelude.{◌==◌, codes}
 use Rattle.std.specs.List.{flat_map}
 use Rattle.std.proofs.lemmas.Bool.Decides.{nat_tests}
 use Rattle.hol_terms.specs.Name.{Name}
-use Rattle.hol_terms.specs.Ty.{Ty, ty_var, ty_app, tys, ty_size, tys_size}
+use Rattle.hol_terms.specs.Ty.{Ty, ty_app, tys, ty_size, tys_size}
 use Rattle.hol_terms.specs.Tm.{Tm, tm_index, tm_free, tm_const, tm_comb, tm_abs, tm_size}
 use Rattle.hol_terms.specs.Typing.{fun_name}
 use Rattle.hol_terms.specs.Sequent.{argument}
-use Rattle.hol_terms.specs.Text.{Text, is_arrow, ty_text, tys_texts, with_commas, with_arguments, parenthesized, Sugar, between, before, binding, none, sugar, is_plain, is_atom, bound_text, printed}
+use Rattle.hol_terms.specs.Text.{Text, is_arrow, ty_text, tys_texts, with_commas, with_arguments, parenthesized, between, before, binding, none, sugar, is_plain, is_atom, printed}
 use Rattle.hb_top.specs.Printing.{operator}
 
 -- a list of type arguments is an arrow's

@@ -341,3 +341,109 @@ pub fn theorem_line(alloc: Global, name: &str, concl: &Term) -> Result<String, A
     push_term(&mut line, concl, 0)?;
     Ok(line)
 }
+
+#[cfg(test)]
+mod tests {
+    use super::{definition_line, push_type, theorem_line};
+    use crate::base;
+    use hol_terms::terms::{Term, Var};
+    use hol_terms::types::HolType;
+    use std::test::Fail;
+
+    #[test]
+    fn prints_base_definitions(rt: HostRuntime) -> Result<(), Fail> {
+        let alloc = rt.alloc();
+        let table = [
+            (
+                "conj",
+                base::conjunction(alloc)?,
+                "def conj : bool -> bool -> bool = \\x0:bool. \\x1:bool. (\\x2:bool -> bool -> bool. x2 x0 x1) = (\\x2:bool -> bool -> bool. x2 T T)",
+            ),
+            (
+                "imp",
+                base::implication(alloc)?,
+                "def imp : bool -> bool -> bool = \\x0:bool. \\x1:bool. (x0 /\\ x1) = x0",
+            ),
+            (
+                "ex",
+                base::existential(alloc)?,
+                "def ex : ('a -> bool) -> bool = \\x0:'a -> bool. !x1:bool. (!x2:'a. x0 x2 ==> x1) ==> x1",
+            ),
+            (
+                "not",
+                base::negation(alloc)?,
+                "def not : bool -> bool = \\x0:bool. x0 ==> F",
+            ),
+            (
+                "one_one",
+                base::one_one(alloc)?,
+                "def one_one : ('a -> 'b) -> bool = \\x0:'a -> 'b. !x1:'a. !x2:'a. (x0 x1 = x0 x2) ==> (x1 = x2)",
+            ),
+            (
+                "onto",
+                base::onto(alloc)?,
+                "def onto : ('a -> 'b) -> bool = \\x0:'a -> 'b. !x1:'b. ?x2:'a. x1 = x0 x2",
+            ),
+        ];
+        for (name, body, want) in &table {
+            let line = definition_line(alloc, name, body)?;
+            assert_eq!(rt; line.as_str(), *want);
+        }
+        Ok(())
+    }
+
+    #[test]
+    fn prints_free_variables_and_type_arguments(rt: HostRuntime) -> Result<(), Fail> {
+        let alloc = rt.alloc();
+        let truth = HolType::app(alloc, "bool", &[])?;
+        let function = HolType::fun(
+            alloc,
+            &HolType::var(alloc, "a")?,
+            &HolType::var(alloc, "b")?,
+        )?;
+        let predicate = HolType::fun(alloc, &function, &truth)?;
+        let v = Term::mk_var(alloc, &Var::new(alloc, "a", &truth)?)?;
+        let one_one = Term::mk_own_const(alloc, "one_one", &predicate)?;
+        let table = [
+            (
+                Term::mk_eq(alloc, &v, &v)?,
+                "thm same : [a:bool] = [a:bool]",
+            ),
+            (
+                Term::mk_eq(alloc, &one_one, &one_one)?,
+                "thm same : one_one{'a,'b} = one_one{'a,'b}",
+            ),
+        ];
+        for (concl, want) in &table {
+            let line = theorem_line(alloc, "same", concl)?;
+            assert_eq!(rt; line.as_str(), *want);
+        }
+        Ok(())
+    }
+
+    #[test]
+    fn prints_types(rt: HostRuntime) -> Result<(), Fail> {
+        let alloc = rt.alloc();
+        let a = HolType::var(alloc, "a")?;
+        let b = HolType::var(alloc, "b")?;
+        let truth = HolType::app(alloc, "bool", &[])?;
+        let test = HolType::fun(alloc, &a, &truth)?;
+        let tests = HolType::app(alloc, "list", &[test.copy()?])?;
+        let pair = HolType::app(alloc, "prod", &[a.copy()?, b])?;
+        let list = HolType::app(alloc, "list", &[a])?;
+        let table = [
+            (HolType::fun(alloc, &test, &truth)?, "('a -> bool) -> bool"),
+            (
+                HolType::fun(alloc, &pair, &list)?,
+                "('a,'b) prod -> 'a list",
+            ),
+            (tests, "('a -> bool) list"),
+        ];
+        for (t, want) in &table {
+            let mut text = String::new(alloc);
+            push_type(&mut text, t)?;
+            assert_eq!(rt; text.as_str(), *want);
+        }
+        Ok(())
+    }
+}
