@@ -22,6 +22,7 @@ fn is_arrow(name: &str, args: &[HolType]) -> bool
     name == "fun" && args.len() == 2
 }
 
+/// Whether the type is a function type.
 fn is_function(t: &HolType) -> bool
     ensures { result ≡ is_function t.now }
 {
@@ -31,7 +32,7 @@ fn is_function(t: &HolType) -> bool
     }
 }
 
-/// Writes the type at the end of `out`.
+/// Writes the type at the end of `out`. An `Err`, for want of memory, leaves a part there.
 #[cycle(print_type)]
 pub fn push_type(out: &mut String, t: &HolType) -> Result<(), AllocError>
     ensures { OnOk result (string_bytes out.new ≡ string_bytes out.old ++ ty_text t.now) }
@@ -45,6 +46,7 @@ pub fn push_type(out: &mut String, t: &HolType) -> Result<(), AllocError>
     }
 }
 
+/// Writes the name applied to the types.
 #[cycle(print_type)]
 #[tactic(auto, using(crate::proofs::PrintLemmas::type_lemmas))]
 fn push_named(out: &mut String, name: &str, args: &[HolType]) -> Result<(), AllocError>
@@ -174,24 +176,16 @@ fn form_of<'a>(f: &'a Term, x: &'a Term) -> Form<'a>
                 Some(sign) => Form::Binder(sign, a, b),
                 None => Form::Plain,
             },
-            TermNode::Index(_) => Form::Plain,
-            TermNode::Free(_) => Form::Plain,
-            TermNode::Const(_, _) => Form::Plain,
-            TermNode::Comb(_, _) => Form::Plain,
+            _ => Form::Plain,
         },
         TermNode::Comb(operator, left) => match operator.view() {
             TermNode::Const(name, _) => match infix_sign(name) {
                 Some(sign) => Form::Infix(sign, left),
                 None => Form::Plain,
             },
-            TermNode::Index(_) => Form::Plain,
-            TermNode::Free(_) => Form::Plain,
-            TermNode::Comb(_, _) => Form::Plain,
-            TermNode::Abs(_, _) => Form::Plain,
+            _ => Form::Plain,
         },
-        TermNode::Index(_) => Form::Plain,
-        TermNode::Free(_) => Form::Plain,
-        TermNode::Abs(_, _) => Form::Plain,
+        _ => Form::Plain,
     }
 }
 
@@ -200,9 +194,7 @@ fn is_plain(t: &Term) -> bool
     ensures { result ≡ is_plain t.now }
 {
     match t.view() {
-        TermNode::Index(_) => true,
-        TermNode::Free(_) => true,
-        TermNode::Const(_, _) => true,
+        TermNode::Index(_) | TermNode::Free(_) | TermNode::Const(_, _) => true,
         TermNode::Comb(f, x) => matches!(form_of(f, x), Form::Plain),
         TermNode::Abs(_, _) => false,
     }
@@ -213,15 +205,12 @@ fn is_atom(t: &Term) -> bool
     ensures { result ≡ is_atom t.now }
 {
     match t.view() {
-        TermNode::Index(_) => true,
-        TermNode::Free(_) => true,
-        TermNode::Const(_, _) => true,
-        TermNode::Comb(_, _) => false,
-        TermNode::Abs(_, _) => false,
+        TermNode::Index(_) | TermNode::Free(_) | TermNode::Const(_, _) => true,
+        TermNode::Comb(_, _) | TermNode::Abs(_, _) => false,
     }
 }
 
-/// Writes the term at the end of `out`, below `depth` binders.
+/// Writes the term, which `depth` binders enclose, at the end of `out`. An `Err`, for want of memory, leaves a part there.
 #[cycle(print_term)]
 #[tactic(auto, using(crate::proofs::PrintLemmas::term_lemmas))]
 pub fn push_term(out: &mut String, t: &Term, depth: usize) -> Result<(), AllocError>
@@ -261,6 +250,7 @@ fn push_scope(out: &mut String, a: &HolType, b: &Term, depth: usize) -> Result<(
     push_term(out, b, deeper)
 }
 
+/// Writes the application of `f` to `x`.
 #[cycle(print_term)]
 #[tactic(auto, using(crate::proofs::PrintLemmas::term_lemmas))]
 fn push_application(out: &mut String, f: &Term, x: &Term, depth: usize) -> Result<(), AllocError>
