@@ -4,11 +4,12 @@ use Rattle.std.specs.Prelude.{◌==◌, codes}
 use Rattle.std.specs.List.{flat_map}
 use Rattle.std.proofs.lemmas.Bool.Decides.{nat_tests}
 use Rattle.hol_terms.specs.Name.{Name}
-use Rattle.hol_terms.specs.Ty.{Ty, ty_var, ty_app, tys, ty_size, tys_size}
+use Rattle.hol_terms.specs.Ty.{Ty, ty_app, tys, ty_size, tys_size}
 use Rattle.hol_terms.specs.Tm.{Tm, tm_index, tm_free, tm_const, tm_comb, tm_abs, tm_size}
 use Rattle.hol_terms.specs.Typing.{fun_name}
 use Rattle.hol_terms.specs.Sequent.{argument}
-use Rattle.hol_terms.specs.Text.{Text, is_arrow, ty_text, tys_texts, with_commas, with_arguments, parenthesized, Sugar, between, before, binding, none, sugar, is_plain, is_atom, bound_text, printed}
+use Rattle.hol_terms.specs.Text.{Text, is_arrow, ty_text, tys_texts, with_commas, with_arguments, parenthesized, between, before, binding, none, sugar, is_plain, is_atom, printed}
+use Rattle.hol_terms.proofs.Lists.{ty_size-at}
 use Rattle.hb_top.specs.Printing.{operator}
 
 -- a list of type arguments is an arrow's
@@ -30,11 +31,6 @@ is_arrow-tys c (t ∷ u ∷ []) = and_true (bytes_eq c fun_name)
 is_arrow-tys c (t ∷ u ∷ v ∷ ts) = rw (not_two (length ts)) (and_false (bytes_eq c fun_name))
 
 pub ruleset arrow_lemmas = (is_arrow-tys)
-
-pub ty_size-at : (ts : List Ty) (i : ℕ) (d : Ty) → i < length ts → ty_size (get_or ts i d) ≤ tys_size (tys ts)
-ty_size-at [] i d h = absurd (omega arith)
-ty_size-at (t ∷ ts) zero d h = omega arith
-ty_size-at (t ∷ ts) (suc i) d h = let k : i < length ts = omega arith in omega (arith, ty_size-at ts i d k)
 
 tys_size-take : (k : ℕ) (ts : List Ty) → tys_size (tys (take k ts)) ≤ tys_size (tys ts)
 tys_size-take zero ts = omega arith

@@ -22,6 +22,7 @@ fn is_arrow(name: &str, args: &[HolType]) -> bool
     name == "fun" && args.len() == 2
 }
 
+/// Whether the type is a function type.
 fn is_function(t: &HolType) -> bool
     ensures { result ≡ is_function t.now }
 {
@@ -31,7 +32,7 @@ fn is_function(t: &HolType) -> bool
     }
 }
 
-/// Writes the type at the end of `out`.
+/// Writes the type at the end of `out`. An `Err`, for want of memory, leaves a part there.
 #[cycle(print_type)]
 pub fn push_type(out: &mut String, t: &HolType) -> Result<(), AllocError>
     ensures { OnOk result (string_bytes out.new ≡ string_bytes out.old ++ ty_text t.now) }
@@ -45,6 +46,7 @@ pub fn push_type(out: &mut String, t: &HolType) -> Result<(), AllocError>
     }
 }
 
+/// Writes the name applied to the types.
 #[cycle(print_type)]
 #[tactic(auto, using(crate::proofs::PrintLemmas::type_lemmas))]
 fn push_named(out: &mut String, name: &str, args: &[HolType]) -> Result<(), AllocError>
@@ -174,24 +176,16 @@ fn form_of<'a>(f: &'a Term, x: &'a Term) -> Form<'a>
                 Some(sign) => Form::Binder(sign, a, b),
                 None => Form::Plain,
             },
-            TermNode::Index(_) => Form::Plain,
-            TermNode::Free(_) => Form::Plain,
-            TermNode::Const(_, _) => Form::Plain,
-            TermNode::Comb(_, _) => Form::Plain,
+            _ => Form::Plain,
         },
         TermNode::Comb(operator, left) => match operator.view() {
             TermNode::Const(name, _) => match infix_sign(name) {
                 Some(sign) => Form::Infix(sign, left),
                 None => Form::Plain,
             },
-            TermNode::Index(_) => Form::Plain,
-            TermNode::Free(_) => Form::Plain,
-            TermNode::Comb(_, _) => Form::Plain,
-            TermNode::Abs(_, _) => Form::Plain,
+            _ => Form::Plain,
         },
-        TermNode::Index(_) => Form::Plain,
-        TermNode::Free(_) => Form::Plain,
-        TermNode::Abs(_, _) => Form::Plain,
+        _ => Form::Plain,
     }
 }
 
@@ -200,9 +194,7 @@ fn is_plain(t: &Term) -> bool
     ensures { result ≡ is_plain t.now }
 {
     match t.view() {
-        TermNode::Index(_) => true,
-        TermNode::Free(_) => true,
-        TermNode::Const(_, _) => true,
+        TermNode::Index(_) | TermNode::Free(_) | TermNode::Const(_, _) => true,
         TermNode::Comb(f, x) => matches!(form_of(f, x), Form::Plain),
         TermNode::Abs(_, _) => false,
     }
@@ -213,15 +205,12 @@ fn is_atom(t: &Term) -> bool
     ensures { result ≡ is_atom t.now }
 {
     match t.view() {
-        TermNode::Index(_) => true,
-        TermNode::Free(_) => true,
-        TermNode::Const(_, _) => true,
-        TermNode::Comb(_, _) => false,
-        TermNode::Abs(_, _) => false,
+        TermNode::Index(_) | TermNode::Free(_) | TermNode::Const(_, _) => true,
+        TermNode::Comb(_, _) | TermNode::Abs(_, _) => false,
     }
 }
 
-/// Writes the term at the end of `out`, below `depth` binders.
+/// Writes the term, which `depth` binders enclose, at the end of `out`. An `Err`, for want of memory, leaves a part there.
 #[cycle(print_term)]
 #[tactic(auto, using(crate::proofs::PrintLemmas::term_lemmas))]
 pub fn push_term(out: &mut String, t: &Term, depth: usize) -> Result<(), AllocError>
@@ -261,6 +250,7 @@ fn push_scope(out: &mut String, a: &HolType, b: &Term, depth: usize) -> Result<(
     push_term(out, b, deeper)
 }
 
+/// Writes the application of `f` to `x`.
 #[cycle(print_term)]
 #[tactic(auto, using(crate::proofs::PrintLemmas::term_lemmas))]
 fn push_application(out: &mut String, f: &Term, x: &Term, depth: usize) -> Result<(), AllocError>
@@ -340,4 +330,110 @@ pub fn theorem_line(alloc: Global, name: &str, concl: &Term) -> Result<String, A
     line.push_str(" : ")?;
     push_term(&mut line, concl, 0)?;
     Ok(line)
+}
+
+#[cfg(test)]
+mod tests {
+    use super::{definition_line, push_type, theorem_line};
+    use crate::base;
+    use hol_terms::terms::{Term, Var};
+    use hol_terms::types::HolType;
+    use std::test::Fail;
+
+    #[test]
+    fn prints_base_definitions(rt: HostRuntime) -> Result<(), Fail> {
+        let alloc = rt.alloc();
+        let table = [
+            (
+                "conj",
+                base::conjunction(alloc)?,
+                "def conj : bool -> bool -> bool = \\x0:bool. \\x1:bool. (\\x2:bool -> bool -> bool. x2 x0 x1) = (\\x2:bool -> bool -> bool. x2 T T)",
+            ),
+            (
+                "imp",
+                base::implication(alloc)?,
+                "def imp : bool -> bool -> bool = \\x0:bool. \\x1:bool. (x0 /\\ x1) = x0",
+            ),
+            (
+                "ex",
+                base::existential(alloc)?,
+                "def ex : ('a -> bool) -> bool = \\x0:'a -> bool. !x1:bool. (!x2:'a. x0 x2 ==> x1) ==> x1",
+            ),
+            (
+                "not",
+                base::negation(alloc)?,
+                "def not : bool -> bool = \\x0:bool. x0 ==> F",
+            ),
+            (
+                "one_one",
+                base::one_one(alloc)?,
+                "def one_one : ('a -> 'b) -> bool = \\x0:'a -> 'b. !x1:'a. !x2:'a. (x0 x1 = x0 x2) ==> (x1 = x2)",
+            ),
+            (
+                "onto",
+                base::onto(alloc)?,
+                "def onto : ('a -> 'b) -> bool = \\x0:'a -> 'b. !x1:'b. ?x2:'a. x1 = x0 x2",
+            ),
+        ];
+        for (name, body, want) in &table {
+            let line = definition_line(alloc, name, body)?;
+            assert_eq!(rt; line.as_str(), *want);
+        }
+        Ok(())
+    }
+
+    #[test]
+    fn prints_free_variables_and_type_arguments(rt: HostRuntime) -> Result<(), Fail> {
+        let alloc = rt.alloc();
+        let truth = HolType::app(alloc, "bool", &[])?;
+        let function = HolType::fun(
+            alloc,
+            &HolType::var(alloc, "a")?,
+            &HolType::var(alloc, "b")?,
+        )?;
+        let predicate = HolType::fun(alloc, &function, &truth)?;
+        let v = Term::mk_var(alloc, &Var::new(alloc, "a", &truth)?)?;
+        let one_one = Term::mk_own_const(alloc, "one_one", &predicate)?;
+        let table = [
+            (
+                Term::mk_eq(alloc, &v, &v)?,
+                "thm same : [a:bool] = [a:bool]",
+            ),
+            (
+                Term::mk_eq(alloc, &one_one, &one_one)?,
+                "thm same : one_one{'a,'b} = one_one{'a,'b}",
+            ),
+        ];
+        for (concl, want) in &table {
+            let line = theorem_line(alloc, "same", concl)?;
+            assert_eq!(rt; line.as_str(), *want);
+        }
+        Ok(())
+    }
+
+    #[test]
+    fn prints_types(rt: HostRuntime) -> Result<(), Fail> {
+        let alloc = rt.alloc();
+        let a = HolType::var(alloc, "a")?;
+        let b = HolType::var(alloc, "b")?;
+        let truth = HolType::app(alloc, "bool", &[])?;
+        let test = HolType::fun(alloc, &a, &truth)?;
+        let tests = HolType::app(alloc, "list", &[test.copy()?])?;
+        let pair = HolType::app(alloc, "prod", &[a.copy()?, b])?;
+        let list = HolType::app(alloc, "list", &[a])?;
+        let table = [
+            (HolType::fun(alloc, &test, &truth)?, "('a -> bool) -> bool"),
+            (
+                HolType::fun(alloc, &pair, &list)?,
+                "('a,'b) prod -> 'a list",
+            ),
+            (tests, "('a -> bool) list"),
+        ];
+        for (t, want) in &table {
+            let mut text = String::new(alloc);
+            push_type(&mut text, t)?;
+            assert_eq!(rt; text.as_str(), *want);
+        }
+        Ok(())
+    }
 }
