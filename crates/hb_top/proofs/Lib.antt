@@ -17,3 +17,4 @@ pub mod AroundLemmas
 pub mod PrintLemmas
 pub mod StartLemmas
 pub mod Checking
+pub mod Running
