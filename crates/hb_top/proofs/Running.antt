@@ -36,11 +36,11 @@ same_some x y e = cc
 split_at : (n : ℕ) (b input rest : Text) → b ≡ input ++ rest → length input ≤ n + 1 → (length input ≤ n → rest ≡ []) → Front n b input (Some rest)
 split_at n b input rest e l whole =
     elim (cases_lt n (length input)) [
-      inl long ↦ (let k : n + 1 ≡ length input = omega arith in record {
+      | inl long ↦ (let k : n + 1 ≡ length input = omega arith in record {
         front = sym (ap (λ m. take m b) k ∙ ap (λ c. take (length input) c) e ∙ take-append_seam input rest);
         left = ap (λ r. Some r) (sym (ap (λ m. drop m b) k ∙ ap (λ c. drop (length input) c) e ∙ drop-append_seam input rest));
       })
-    | inr short ↦ (let z = whole short in let f : b ≡ input = e ∙ ap (λ r. input ++ r) z ∙ append-nil input in record {
+      | inr short ↦ (let z = whole short in let f : b ≡ input = e ∙ ap (λ r. input ++ r) z ∙ append-nil input in record {
         front = sym (ap (λ c. take (n + 1) c) f ∙ take_all (n + 1) input l);
         left = ap (λ r. Some r) (z ∙ sym (ap (λ c. drop (n + 1) c) f ∙ drop_all (n + 1) input l));
       })

@@ -4,6 +4,7 @@
 mod base;
 mod fronts;
 mod input;
+pub mod laws;
 mod output;
 mod print;
 mod read;
