@@ -1,9 +1,11 @@
 ghost use Rattle.std.specs.Prelude.{◌≡◌, IfOk, OnOk, IsSomeAnd, string_bytes, length, [], ◌∷◌, codes};
 ghost use Rattle.hol_terms.specs.Tm.{tm_index, tm_free, tm_const, tm_comb, tm_abs};
 ghost use Rattle.hol_terms.specs.Typing.{tm_type, range_ty, fun_ty};
+ghost use Rattle.hol_terms.specs.Takes.{Takes};
+ghost use Rattle.hol_terms.specs.Subst.{ty_subst, ty_pairs};
 ghost use Rattle.hol_terms.specs.TmBody.{tm_of_body, HoldsType};
 ghost use Rattle.hol_terms.specs.TmNode.{IsTmNode};
-ghost use Rattle.hol_terms.specs.Binding.{var_cmp, tm_bind, tm_open, has_free, tm_cmp, tm_inst, var_lookup};
+ghost use Rattle.hol_terms.specs.Binding.{var_cmp, tm_bind, tm_open, has_free, tm_cmp, tm_inst, tm_ty_subst, var_lookup};
 ghost use Rattle.hol_terms.specs.Definition.{eq_ty, has_frees};
 ghost use Rattle.hol_terms.specs.Signature.{generic_of};
 ghost use Rattle.hol_terms.specs.TyVars.{ty_vars, tm_ty_vars, tm_within, const_at, own_const};
@@ -14,7 +16,7 @@ ghost use Rattle.hol_terms.specs.Keeps.{KeepsTypes};
 ghost use Rattle.std.specs.Option.{option_copied, unwrap_or};
 
 use crate::sig::Sig;
-use crate::types::{HolType, add_vars_of, are_within, cmp_all, copy_all};
+use crate::types::{HolType, add_vars_of, are_within, cmp_all, copy_all, subst_all};
 use std::alloc::{AllocError, Global};
 use std::cmp::Ordering;
 use std::marker::Model;
@@ -173,12 +175,17 @@ impl Term {
     }
 
     pub fn mk_comb(alloc: Global, f: &Term, x: &Term) -> Result<Term, AllocError>
-        requires { tm_type f.now ≡ fun_ty (tm_type x.now) (range_ty (tm_type f.now)) }
+        requires { Takes f.now x.now }
         ensures { IfOk result (λ t. t ≡ tm_comb f.now x.now) }
     {
+        Term::apply(alloc, f.copy()?, x.copy()?)
+    }
+
+    fn apply(alloc: Global, f: Term, x: Term) -> Result<Term, AllocError>
+        requires { Takes f x }
+        ensures { IfOk result (λ t. t ≡ tm_comb f x) }
+    {
         let ty = f.type_of().range().copy()?;
-        let f = f.copy()?;
-        let x = x.copy()?;
         Term::close(alloc, TermBody::Comb(f, x, ty))
     }
 
@@ -364,10 +371,9 @@ impl Term {
             }
             TermNode::Const(_, _) => self.copy(),
             TermNode::Comb(f, x) => {
-                let ty = self.type_of().copy()?;
                 let f = f.bind(alloc, v, depth)?;
                 let x = x.bind(alloc, v, depth)?;
-                Term::close(alloc, TermBody::Comb(f, x, ty))
+                Term::apply(alloc, f, x)
             }
             TermNode::Abs(a, b) => {
                 let Some(deeper) = depth.checked_add(1) else {
@@ -415,10 +421,9 @@ impl Term {
             TermNode::Free(_) => self.copy(),
             TermNode::Const(_, _) => self.copy(),
             TermNode::Comb(f, x) => {
-                let ty = self.type_of().copy()?;
                 let f = f.open_at(alloc, v, depth)?;
                 let x = x.open_at(alloc, v, depth)?;
-                Term::close(alloc, TermBody::Comb(f, x, ty))
+                Term::apply(alloc, f, x)
             }
             TermNode::Abs(a, b) => {
                 let Some(deeper) = depth.checked_add(1) else {
@@ -444,12 +449,46 @@ impl Term {
             },
             TermNode::Const(_, _) => self.copy(),
             TermNode::Comb(f, x) => {
-                let ty = self.type_of().copy()?;
                 let f = f.inst(alloc, s)?;
                 let x = x.inst(alloc, s)?;
-                Term::close(alloc, TermBody::Comb(f, x, ty))
+                Term::apply(alloc, f, x)
             }
             TermNode::Abs(a, b) => Term::mk_lambda(alloc, a, b.inst(alloc, s)?),
+        }
+    }
+
+    /// The term with the type variables of `s` replaced at once.
+    #[tactic(auto, using(crate::proofs::LooseLemmas::inst_type_lemmas))]
+    pub fn inst_type(&self, alloc: Global, s: &[(String, HolType)]) -> Result<Term, AllocError>
+        ensures exact { IfOk result (λ t. t ≡ tm_ty_subst (ty_pairs s.now) self.now) }
+        ensures ty { IfOk result (λ t. tm_type t ≡ ty_subst (ty_pairs s.now) (tm_type self.now)) }
+    {
+        match self.view() {
+            TermNode::Index(i) => {
+                let ty = self.type_of().subst(alloc, s)?;
+                Term::close(alloc, TermBody::Index(i, ty))
+            }
+            TermNode::Free(v) => {
+                let ty = v.ty().subst(alloc, s)?;
+                let v = Var::new(alloc, v.name(), &ty)?;
+                Term::close(alloc, TermBody::Free(v))
+            }
+            TermNode::Const(name, args) => {
+                let ty = self.type_of().subst(alloc, s)?;
+                let args = subst_all(alloc, args, s)?;
+                let name = String::from_str(alloc, name)?;
+                Term::close(alloc, TermBody::Const(name, args, ty))
+            }
+            TermNode::Comb(f, x) => {
+                let f = f.inst_type(alloc, s)?;
+                let x = x.inst_type(alloc, s)?;
+                Term::apply(alloc, f, x)
+            }
+            TermNode::Abs(a, b) => {
+                let a = a.subst(alloc, s)?;
+                let b = b.inst_type(alloc, s)?;
+                Term::mk_lambda(alloc, &a, b)
+            }
         }
     }
 
