@@ -8,6 +8,11 @@ pub mod Tables
 pub mod Weaken
 pub mod Typed
 pub mod Defining
+pub mod InstLemmas
+pub mod Instances
+pub mod TypeInst
+pub mod Bound
+pub mod Opened
 pub mod AsciiNames
 pub mod Checked
 pub mod PlainTrees

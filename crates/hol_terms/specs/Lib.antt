@@ -2,6 +2,7 @@ pub mod Name
 pub mod Ty
 pub mod Tm
 pub mod Typing
+pub mod Takes
 pub mod Subst
 pub mod Binding
 pub mod Loose

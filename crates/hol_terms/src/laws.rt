@@ -1,7 +1,10 @@
 //! Laws of the definitions: each function does nothing, and its contract is the law.
 
 ghost use Rattle.std.specs.Prelude.{◌≡◌, ℕ, List, [], Some, map, slice_get};
+ghost use Rattle.std.specs.Cmp.{IsTotalOrder};
+ghost use Rattle.std.specs.declared.cmp.Ordering.TheVariants.{Equal};
 ghost use Rattle.hol_terms.specs.Tm.{Tm};
+ghost use Rattle.hol_terms.specs.Binding.{tm_cmp};
 ghost use Rattle.hol_terms.specs.Signature.{Signature, IsOver};
 ghost use Rattle.hol_terms.specs.Definition.{Definition};
 ghost use Rattle.hol_terms.specs.Plain.{plain};
@@ -16,6 +19,16 @@ ghost use Rattle.hol_terms.specs.BaseLines.{base_lines, axiom_lines};
 /// stand beside bound variables and constants: those types follow from the binders and from the signature.
 pub fn plain_trees_decide()
     ensures { (s : Signature) (t u : Tm) → IsOver s [] t → IsOver s [] u → plain t ≡ plain u → t ≡ u }
+{}
+
+/// Terms that the order does not tell apart are the same term.
+pub fn term_order_decides()
+    ensures { (t u : Tm) → tm_cmp t u ≡ Equal → t ≡ u }
+{}
+
+/// The order of terms is total.
+pub fn term_order_is_total()
+    ensures { IsTotalOrder tm_cmp }
 {}
 
 /// Each of the 52 base definitions is well formed after those before it: its names are new, its term is well typed over what

@@ -6,5 +6,7 @@ pub mod defs;
 pub mod laws;
 pub mod names;
 pub mod sig;
+#[cfg(test)]
+mod term_tests;
 pub mod terms;
 pub mod types;

@@ -1,17 +1,22 @@
 ghost use Rattle.std.specs.Prelude.{◌≡◌, IfOk, OnOk, IsSomeAnd, string_bytes, length, [], ◌∷◌, codes};
 ghost use Rattle.hol_terms.specs.Tm.{tm_index, tm_free, tm_const, tm_comb, tm_abs};
 ghost use Rattle.hol_terms.specs.Typing.{tm_type, range_ty, fun_ty};
+ghost use Rattle.hol_terms.specs.Takes.{Takes};
+ghost use Rattle.hol_terms.specs.Subst.{ty_subst, ty_pairs};
 ghost use Rattle.hol_terms.specs.TmBody.{tm_of_body, HoldsType};
 ghost use Rattle.hol_terms.specs.TmNode.{IsTmNode};
-ghost use Rattle.hol_terms.specs.Binding.{var_cmp, tm_bind};
+ghost use Rattle.hol_terms.specs.Binding.{var_cmp, tm_bind, tm_open, has_free, tm_cmp, tm_inst, tm_ty_subst, var_lookup};
 ghost use Rattle.hol_terms.specs.Definition.{eq_ty, has_frees};
 ghost use Rattle.hol_terms.specs.Signature.{generic_of};
 ghost use Rattle.hol_terms.specs.TyVars.{ty_vars, tm_ty_vars, tm_within, const_at, own_const};
-ghost use Rattle.hol_terms.specs.Sequent.{eq_tm};
-ghost use Rattle.hol_terms.specs.Loose.{HasAt, IsClosedAt};
+ghost use Rattle.hol_terms.specs.Sequent.{eq_tm, IsEq, left_of, argument};
+ghost use Rattle.hol_terms.specs.Loose.{HasAt, IsClosedAt, AreClosed};
+ghost use Rattle.hol_terms.specs.Opening.{IsAbsOf, body_of};
+ghost use Rattle.hol_terms.specs.Keeps.{KeepsTypes};
+ghost use Rattle.std.specs.Option.{option_copied, unwrap_or};
 
 use crate::sig::Sig;
-use crate::types::{HolType, add_vars_of, are_within, copy_all};
+use crate::types::{HolType, add_vars_of, are_within, cmp_all, copy_all, subst_all};
 use std::alloc::{AllocError, Global};
 use std::cmp::Ordering;
 use std::marker::Model;
@@ -170,12 +175,17 @@ impl Term {
     }
 
     pub fn mk_comb(alloc: Global, f: &Term, x: &Term) -> Result<Term, AllocError>
-        requires { tm_type f.now ≡ fun_ty (tm_type x.now) (range_ty (tm_type f.now)) }
+        requires { Takes f.now x.now }
         ensures { IfOk result (λ t. t ≡ tm_comb f.now x.now) }
     {
+        Term::apply(alloc, f.copy()?, x.copy()?)
+    }
+
+    fn apply(alloc: Global, f: Term, x: Term) -> Result<Term, AllocError>
+        requires { Takes f x }
+        ensures { IfOk result (λ t. t ≡ tm_comb f x) }
+    {
         let ty = f.type_of().range().copy()?;
-        let f = f.copy()?;
-        let x = x.copy()?;
         Term::close(alloc, TermBody::Comb(f, x, ty))
     }
 
@@ -253,6 +263,44 @@ impl Term {
         Term::close(alloc, TermBody::Const(name, args, ty))
     }
 
+    /// The left side of an equation.
+    pub fn left(&self) -> &Term
+        requires { IsEq self.now }
+        ensures { result.now ≡ left_of self.now }
+    {
+        match self.view() {
+            TermNode::Comb(f, _) => match f.view() {
+                TermNode::Comb(_, s) => s,
+                _ => unreachable!(),
+            },
+            _ => unreachable!(),
+        }
+    }
+
+    /// The right side of an equation.
+    pub fn right(&self) -> &Term
+        requires { IsEq self.now }
+        ensures { result.now ≡ argument self.now }
+    {
+        match self.view() {
+            TermNode::Comb(_, t) => t,
+            _ => unreachable!(),
+        }
+    }
+
+    /// Whether the variable occurs free in the term.
+    pub fn free_in(&self, v: &Var) -> bool
+        ensures { result ≡ has_free v.now self.now }
+    {
+        match self.view() {
+            TermNode::Index(_) => false,
+            TermNode::Free(w) => matches!(v.cmp(w), Ordering::Equal),
+            TermNode::Const(_, _) => false,
+            TermNode::Comb(f, x) => f.free_in(v) || x.free_in(v),
+            TermNode::Abs(_, b) => b.free_in(v),
+        }
+    }
+
     /// Whether a free variable occurs in the term.
     pub fn has_frees(&self) -> bool
         ensures { result ≡ has_frees self.now }
@@ -323,10 +371,9 @@ impl Term {
             }
             TermNode::Const(_, _) => self.copy(),
             TermNode::Comb(f, x) => {
-                let ty = self.type_of().copy()?;
                 let f = f.bind(alloc, v, depth)?;
                 let x = x.bind(alloc, v, depth)?;
-                Term::close(alloc, TermBody::Comb(f, x, ty))
+                Term::apply(alloc, f, x)
             }
             TermNode::Abs(a, b) => {
                 let Some(deeper) = depth.checked_add(1) else {
@@ -346,4 +393,151 @@ impl Term {
         let b = body.bind(alloc, v, 0)?;
         Term::mk_lambda(alloc, v.ty(), b)
     }
+
+    /// The body of an abstraction, with `v` in place of the bound variable.
+    pub fn open(&self, alloc: Global, v: &Var) -> Result<Term, AllocError>
+        requires { IsAbsOf v.now.ty self.now }
+        ensures { IfOk result (λ t. t ≡ tm_open 0 v.now (body_of self.now)) }
+    {
+        match self.view() {
+            TermNode::Abs(_, b) => b.open_at(alloc, v, 0),
+            _ => unreachable!(),
+        }
+    }
+
+    #[tactic(auto, using(crate::proofs::LooseLemmas::open_lemmas))]
+    fn open_at(&self, alloc: Global, v: &Var, depth: usize) -> Result<Term, AllocError>
+        requires { HasAt depth v.now.ty self.now }
+        ensures { IfOk result (λ t. t ≡ tm_open depth v.now self.now) }
+    {
+        match self.view() {
+            TermNode::Index(i) => {
+                if i == depth {
+                    Term::mk_var(alloc, v)
+                } else {
+                    self.copy()
+                }
+            }
+            TermNode::Free(_) => self.copy(),
+            TermNode::Const(_, _) => self.copy(),
+            TermNode::Comb(f, x) => {
+                let f = f.open_at(alloc, v, depth)?;
+                let x = x.open_at(alloc, v, depth)?;
+                Term::apply(alloc, f, x)
+            }
+            TermNode::Abs(a, b) => {
+                let Some(deeper) = depth.checked_add(1) else {
+                    return Err(AllocError);
+                };
+                Term::mk_lambda(alloc, a, b.open_at(alloc, v, deeper)?)
+            }
+        }
+    }
+
+    /// The term with the variables of `s` replaced at once.
+    #[tactic(auto, using(crate::proofs::LooseLemmas::inst_lemmas))]
+    pub fn inst(&self, alloc: Global, s: &[(Var, Term)]) -> Result<Term, AllocError>
+        requires types { KeepsTypes s.now }
+        requires closed { AreClosed s.now }
+        ensures { IfOk result (λ t. t ≡ tm_inst s.now self.now) }
+    {
+        match self.view() {
+            TermNode::Index(_) => self.copy(),
+            TermNode::Free(w) => match lookup(s, w) {
+                Some(t) => t.copy(),
+                None => self.copy(),
+            },
+            TermNode::Const(_, _) => self.copy(),
+            TermNode::Comb(f, x) => {
+                let f = f.inst(alloc, s)?;
+                let x = x.inst(alloc, s)?;
+                Term::apply(alloc, f, x)
+            }
+            TermNode::Abs(a, b) => Term::mk_lambda(alloc, a, b.inst(alloc, s)?),
+        }
+    }
+
+    /// The term with the type variables of `s` replaced at once.
+    #[tactic(auto, using(crate::proofs::LooseLemmas::inst_type_lemmas))]
+    pub fn inst_type(&self, alloc: Global, s: &[(String, HolType)]) -> Result<Term, AllocError>
+        ensures exact { IfOk result (λ t. t ≡ tm_ty_subst (ty_pairs s.now) self.now) }
+        ensures ty { IfOk result (λ t. tm_type t ≡ ty_subst (ty_pairs s.now) (tm_type self.now)) }
+    {
+        match self.view() {
+            TermNode::Index(i) => {
+                let ty = self.type_of().subst(alloc, s)?;
+                Term::close(alloc, TermBody::Index(i, ty))
+            }
+            TermNode::Free(v) => {
+                let ty = v.ty().subst(alloc, s)?;
+                let v = Var::new(alloc, v.name(), &ty)?;
+                Term::close(alloc, TermBody::Free(v))
+            }
+            TermNode::Const(name, args) => {
+                let ty = self.type_of().subst(alloc, s)?;
+                let args = subst_all(alloc, args, s)?;
+                let name = String::from_str(alloc, name)?;
+                Term::close(alloc, TermBody::Const(name, args, ty))
+            }
+            TermNode::Comb(f, x) => {
+                let f = f.inst_type(alloc, s)?;
+                let x = x.inst_type(alloc, s)?;
+                Term::apply(alloc, f, x)
+            }
+            TermNode::Abs(a, b) => {
+                let a = a.subst(alloc, s)?;
+                let b = b.inst_type(alloc, s)?;
+                Term::mk_lambda(alloc, &a, b)
+            }
+        }
+    }
+
+    /// The order of terms: by kind, an index, a variable, a constant, an application and an abstraction, then by parts.
+    pub fn cmp(&self, o: &Term) -> Ordering
+        ensures { result ≡ tm_cmp self.now o.now }
+    {
+        match (self.view(), o.view()) {
+            (TermNode::Index(i), TermNode::Index(j)) => match i.cmp(&j) {
+                Ordering::Equal => self.type_of().cmp(o.type_of()),
+                decided => decided,
+            },
+            (TermNode::Index(_), _) => Ordering::Less,
+            (_, TermNode::Index(_)) => Ordering::Greater,
+            (TermNode::Free(v), TermNode::Free(w)) => v.cmp(w),
+            (TermNode::Free(_), _) => Ordering::Less,
+            (_, TermNode::Free(_)) => Ordering::Greater,
+            (TermNode::Const(c, ts), TermNode::Const(d, us)) => match c.cmp(&d) {
+                Ordering::Equal => match cmp_all(ts, us) {
+                    Ordering::Equal => self.type_of().cmp(o.type_of()),
+                    decided => decided,
+                },
+                decided => decided,
+            },
+            (TermNode::Const(_, _), _) => Ordering::Less,
+            (_, TermNode::Const(_, _)) => Ordering::Greater,
+            (TermNode::Comb(f, x), TermNode::Comb(g, y)) => match f.cmp(g) {
+                Ordering::Equal => x.cmp(y),
+                decided => decided,
+            },
+            (TermNode::Comb(_, _), _) => Ordering::Less,
+            (_, TermNode::Comb(_, _)) => Ordering::Greater,
+            (TermNode::Abs(a, b), TermNode::Abs(c, d)) => match a.cmp(c) {
+                Ordering::Equal => b.cmp(d),
+                decided => decided,
+            },
+        }
+    }
+}
+
+/// What the first pair of the variable puts for it.
+#[tactic(auto, using(crate::proofs::Lists::var_lookup_lemmas))]
+fn lookup<'a>(s: &'a [(Var, Term)], w: &Var) -> Option<&'a Term>
+    ensures { var_lookup s.now w.now ≡ unwrap_or (option_copied result) (tm_free w.now) }
+{
+    for (v, t) in s {
+        if matches!(v.cmp(w), Ordering::Equal) {
+            return Some(t);
+        }
+    }
+    None
 }

@@ -1,5 +1,5 @@
 ghost use Rattle.std.specs.Prelude.{◌≡◌, IfOk, string_bytes};
-ghost use Rattle.std.specs.Prelude.{[], OnOk};
+ghost use Rattle.std.specs.Prelude.{[], OnOk, map};
 ghost use Rattle.std.specs.List.{list_any};
 ghost use Rattle.std.specs.Ordering.{is_eq};
 ghost use Rattle.hol_terms.specs.TyVars.{ty_vars, tys_vars, occurs, ty_within, tys_within, with_var, pairs_of, instance_at, var_name};
@@ -319,6 +319,21 @@ pub(crate) fn cmp_all(xs: &[HolType], ys: &[HolType]) -> Ordering
     } else {
         Ordering::Equal
     }
+}
+
+/// Each of the types with the variables of `s` replaced at once.
+pub(crate) fn subst_all(
+    alloc: Global,
+    types: &[HolType],
+    s: &[(String, HolType)],
+) -> Result<Vec<HolType>, AllocError>
+    ensures { IfOk result (λ v. v.items ≡ map (ty_subst (ty_pairs s.now)) types.now) }
+{
+    let mut new = Vec::new(alloc);
+    for ty in types {
+        new.push(ty.subst(alloc, s)?)?;
+    }
+    Ok(new)
 }
 
 pub(crate) fn copy_all(alloc: Global, args: &[HolType]) -> Result<Vec<HolType>, AllocError>
