@@ -8,3 +8,6 @@ pub mod names;
 pub mod sig;
 pub mod terms;
 pub mod types;
+
+#[cfg(test)]
+mod tests;
