@@ -7,7 +7,6 @@ pub mod laws;
 pub mod names;
 pub mod sig;
 pub mod terms;
-pub mod types;
-
 #[cfg(test)]
 mod tests;
+pub mod types;

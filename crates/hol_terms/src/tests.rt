@@ -8,6 +8,7 @@ use std::alloc::{AllocError, Global};
 use std::test::Fail;
 
 // A type as `'a` or `(name argument ..)`.
+#[tactic(auto, using(crate::proofs::Lists::subst_lemmas))]
 fn write_type(out: &mut String, ty: &HolType) -> Result<(), AllocError> {
     match ty.view() {
         TypeNode::Var(name) => {
@@ -17,7 +18,10 @@ fn write_type(out: &mut String, ty: &HolType) -> Result<(), AllocError> {
         TypeNode::App(name, args) => {
             out.push_str("(")?;
             out.push_str(name)?;
-            write_types(out, args)?;
+            for arg in args {
+                out.push_str(" ")?;
+                write_type(out, arg)?;
+            }
             out.push_str(")")
         }
     }
@@ -93,12 +97,18 @@ fn types_are_as_asked(rt: HostRuntime) -> Result<(), Fail> {
     let pair = HolType::app(alloc, "prod", &both)?;
     let ty = HolType::fun(alloc, &pair, &b)?;
     assert_eq!(rt; text_of_type(alloc, &ty)?.as_str(), "(fun (prod 'b 'a) 'b)");
-    assert_eq!(rt; text_of_type(alloc, &ty.copy()?)?.as_str(), "(fun (prod 'b 'a) 'b)");
+    assert_eq!(rt;
+        text_of_type(alloc, &ty.copy()?)?.as_str(),
+        "(fun (prod 'b 'a) 'b)"
+    );
 
     assert_eq!(rt; text_of_types(alloc, &ty.vars(alloc)?)?.as_str(), " 'b 'a");
     let given = [truth.copy()?, b.copy()?];
     let instance = ty.instance(alloc, &given)?;
-    assert_eq!(rt; text_of_type(alloc, &instance)?.as_str(), "(fun (prod (bool) 'b) (bool))");
+    assert_eq!(rt;
+        text_of_type(alloc, &instance)?.as_str(),
+        "(fun (prod (bool) 'b) (bool))"
+    );
 
     // All variables at once, and the first pair of a name.
     let pairs = [
@@ -107,7 +117,10 @@ fn types_are_as_asked(rt: HostRuntime) -> Result<(), Fail> {
         (String::from_str(alloc, "a")?, truth),
     ];
     let replaced = ty.subst(alloc, &pairs)?;
-    assert_eq!(rt; text_of_type(alloc, &replaced)?.as_str(), "(fun (prod 'a 'b) 'a)");
+    assert_eq!(rt;
+        text_of_type(alloc, &replaced)?.as_str(),
+        "(fun (prod 'a 'b) 'a)"
+    );
     Ok(())
 }
 
@@ -120,25 +133,53 @@ fn terms_are_as_asked(rt: HostRuntime) -> Result<(), Fail> {
     let x = Var::new(alloc, "x", &a)?;
     let y = Var::new(alloc, "y", &a)?.copy(alloc)?;
     let equation = Term::mk_eq(alloc, &Term::mk_var(alloc, &x)?, &Term::mk_var(alloc, &y)?)?;
-    assert_eq!(rt; text_of_term(alloc, &equation)?.as_str(), "(({eq 'a} x:'a) y:'a) : (bool)");
+    assert_eq!(rt;
+        text_of_term(alloc, &equation)?.as_str(),
+        "(({eq 'a} x:'a) y:'a) : (bool)"
+    );
 
     let other = Var::new(alloc, "y", &b)?;
     let inner = Term::mk_abs(alloc, &x, &equation)?;
     let outer = Term::mk_abs(alloc, &y, &Term::mk_abs(alloc, &other, &inner)?)?;
-    assert_eq!(rt; text_of_term(alloc, &outer.copy()?)?.as_str(), "\\'a. \\'b. \\'a. (({eq 'a} #0) #2) : (fun 'a (fun 'b (fun 'a (bool))))");
-    assert_eq!(rt; text_of_types(alloc, &outer.ty_vars(alloc)?)?.as_str(), " 'a 'b");
+    assert_eq!(rt;
+        text_of_term(alloc, &outer.copy()?)?.as_str(),
+        "\\'a. \\'b. \\'a. (({eq 'a} #0) #2) : (fun 'a (fun 'b (fun 'a (bool))))"
+    );
+    assert_eq!(rt;
+        text_of_types(alloc, &outer.ty_vars(alloc)?)?.as_str(),
+        " 'a 'b"
+    );
 
     let id = Term::mk_abs(alloc, &x, &Term::mk_var(alloc, &x)?)?;
-    assert_eq!(rt; text_of_term(alloc, &Term::mk_comb(alloc, &id, &Term::mk_var(alloc, &y)?)?)?.as_str(), "(\\'a. #0 y:'a) : 'a");
+    assert_eq!(rt;
+        text_of_term(
+            alloc,
+            &Term::mk_comb(alloc, &id, &Term::mk_var(alloc, &y)?)?
+        )?
+        .as_str(),
+        "(\\'a. #0 y:'a) : 'a"
+    );
 
     let sig = Sig::start(alloc)?;
     let args = [truth.copy()?];
-    assert_eq!(rt; text_of_term(alloc, &Term::mk_const(alloc, &sig, "some", &args)?)?.as_str(), "{some (bool)} : (fun (fun (bool) (bool)) (bool))");
-    assert_eq!(rt; text_of_term(alloc, &Term::mk_equals(alloc, &truth)?)?.as_str(), "{eq (bool)} : (fun (bool) (fun (bool) (bool)))");
+    assert_eq!(rt;
+        text_of_term(alloc, &Term::mk_const(alloc, &sig, "some", &args)?)?.as_str(),
+        "{some (bool)} : (fun (fun (bool) (bool)) (bool))"
+    );
+    assert_eq!(rt;
+        text_of_term(alloc, &Term::mk_equals(alloc, &truth)?)?.as_str(),
+        "{eq (bool)} : (fun (bool) (fun (bool) (bool)))"
+    );
     let generic = HolType::fun(alloc, &b, &a)?;
     let given = [truth, a];
-    assert_eq!(rt; text_of_term(alloc, &Term::mk_own_const(alloc, "c", &generic)?)?.as_str(), "{c 'b 'a} : (fun 'b 'a)");
-    assert_eq!(rt; text_of_term(alloc, &Term::mk_const_at(alloc, "c", &generic, &given)?)?.as_str(), "{c (bool) 'a} : (fun (bool) 'a)");
+    assert_eq!(rt;
+        text_of_term(alloc, &Term::mk_own_const(alloc, "c", &generic)?)?.as_str(),
+        "{c 'b 'a} : (fun 'b 'a)"
+    );
+    assert_eq!(rt;
+        text_of_term(alloc, &Term::mk_const_at(alloc, "c", &generic, &given)?)?.as_str(),
+        "{c (bool) 'a} : (fun (bool) 'a)"
+    );
     Ok(())
 }
 
@@ -151,7 +192,6 @@ fn signatures_grow(rt: HostRuntime) -> Result<(), Fail> {
     sig.add_type(alloc, "list", 1)?;
     assert_eq!(rt; sig.arity("list"), Some(1));
 
-    // The constant `c`, and the type `t` of what `c` is equal to.
     let x = Var::new(alloc, "x", &HolType::var(alloc, "a")?)?;
     let id = Term::mk_abs(alloc, &x, &Term::mk_var(alloc, &x)?)?;
     sig.add_const(alloc, "c", id.type_of())?;
@@ -164,19 +204,17 @@ fn signatures_grow(rt: HostRuntime) -> Result<(), Fail> {
     let pred = Term::mk_abs(
         alloc,
         &x,
-        &Term::mk_eq(
-            alloc,
-            &Term::mk_var(alloc, &x)?,
-            &Term::mk_var(alloc, &x)?,
-        )?,
+        &Term::mk_eq(alloc, &Term::mk_var(alloc, &x)?, &Term::mk_var(alloc, &x)?)?,
     )?;
     let new_type = Def::NewType {
         name: String::from_str(alloc, "t")?,
         pred,
-        from: 0,
-    };
+        from: 3,
+    }
+    .copy()?;
+    assert!(rt; matches!(&new_type, Def::NewType { from: 3, .. }));
     assert!(rt; sig.is_new("t") && sig.is_new("t.abs") && sig.is_new("t.rep"));
-    sig.add_def(alloc, &new_type.copy()?)?;
+    sig.add_def(alloc, &new_type)?;
     assert_eq!(rt; sig.arity("t"), Some(1));
     for (name, want) in [
         ("eq", "(fun 'a (fun 'a (bool)))"),
