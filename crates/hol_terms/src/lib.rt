@@ -9,4 +9,6 @@ pub mod sig;
 #[cfg(test)]
 mod term_tests;
 pub mod terms;
+#[cfg(test)]
+mod tests;
 pub mod types;
