@@ -6,8 +6,6 @@ pub mod defs;
 pub mod laws;
 pub mod names;
 pub mod sig;
-#[cfg(test)]
-mod term_tests;
 pub mod terms;
 #[cfg(test)]
 mod tests;
