@@ -47,52 +47,62 @@ fn expect_check(
     Ok(())
 }
 
+// Accepted texts and their outputs.
+static DONE: [(&str, &str); 5] = [
+    ("", "base 10\n"),
+    (
+        "define ident : 'a -> 'a = \\y:'a. y;",
+        "base 10\ncommand 1 define ident\ndef ident : 'a -> 'a = \\x0:'a. x0\nthm ident.def : ident{'a} = (\\x0:'a. x0)\n",
+    ),
+    (
+        "define t : bool -> (bool -> ind) -> bool = \\a:bool. \\a:bool -> ind. T;",
+        "base 10\ncommand 1 define t\ndef t : bool -> (bool -> ind) -> bool = \\x0:bool. \\x1:bool -> ind. T\nthm t.def : t = (\\x0:bool. \\x1:bool -> ind. T)\n",
+    ),
+    (
+        "define _0 : 'b -> ind -> ind = \\a:'b. \\a:ind. a;",
+        "base 10\ncommand 1 define _0\ndef _0 : 'b -> ind -> ind = \\x0:'b. \\x1:ind. x1\nthm _0.def : _0{'b} = (\\x0:'b. \\x1:ind. x1)\n",
+    ),
+    (
+        "define f : bool = F;",
+        "base 10\ncommand 1 define f\ndef f : bool = F\nthm f.def : f = F\n",
+    ),
+];
+
+// Texts that are no command.
+static REFUSED: [&[u8]; 17] = [
+    b"define q : bool = suc;",
+    b"define bad : bool = (\\y:'a. y) = (\\y:'a. y);",
+    b"define T : bool = F;",
+    b"define one_one : bool = F;",
+    b"define x1 : bool = T;",
+    b"define plugin : bool = T;",
+    b"define where : bool = T;",
+    b"define q :  bool = T;",
+    b"define q : bool = T",
+    b"define q : bool = T;\n",
+    b"define q : (bool) -> bool = \\a:bool. a;",
+    b"define q : 'x1 -> bool = \\a:'x1. T;",
+    b"define q : ind -> ind = \\and:ind. and;",
+    b"define q : bool = T\xFF;",
+    b"define q : bool = p;",
+    b"define q : ind = T;",
+    b"definition",
+];
+
 #[test]
 fn rows(rt: HostRuntime) -> Result<(), Fail> {
-    let done = [
-        (b"".as_slice(), "base 10\n"),
-        (
-            b"define ident : 'a -> 'a = \\y:'a. y;",
-            "base 10\ncommand 1 define ident\ndef ident : 'a -> 'a = \\x0:'a. x0\nthm ident.def : ident{'a} = (\\x0:'a. x0)\n",
-        ),
-        (
-            b"define t : bool -> (bool -> ind) -> bool = \\a:bool. \\a:bool -> ind. T;",
-            "base 10\ncommand 1 define t\ndef t : bool -> (bool -> ind) -> bool = \\x0:bool. \\x1:bool -> ind. T\nthm t.def : t = (\\x0:bool. \\x1:bool -> ind. T)\n",
-        ),
-        (
-            b"define _0 : 'b -> ind -> ind = \\a:'b. \\a:ind. a;",
-            "base 10\ncommand 1 define _0\ndef _0 : 'b -> ind -> ind = \\x0:'b. \\x1:ind. x1\nthm _0.def : _0{'b} = (\\x0:'b. \\x1:ind. x1)\n",
-        ),
-        (
-            b"define f : bool = F;",
-            "base 10\ncommand 1 define f\ndef f : bool = F\nthm f.def : f = F\n",
-        ),
-    ];
-    for (input, want) in &done {
+    for (input, want) in &DONE {
         for piece in [4, 4096] {
-            expect_check(&rt, rt.alloc(), input, piece, (Status::Done, want))?;
+            expect_check(
+                &rt,
+                rt.alloc(),
+                input.as_bytes(),
+                piece,
+                (Status::Done, want),
+            )?;
         }
     }
-    let refused = [
-        b"define q : bool = suc;".as_slice(),
-        b"define bad : bool = (\\y:'a. y) = (\\y:'a. y);",
-        b"define T : bool = F;",
-        b"define one_one : bool = F;",
-        b"define x1 : bool = T;",
-        b"define plugin : bool = T;",
-        b"define where : bool = T;",
-        b"define q :  bool = T;",
-        b"define q : bool = T",
-        b"define q : bool = T;\n",
-        b"define q : (bool) -> bool = \\a:bool. a;",
-        b"define q : 'x1 -> bool = \\a:'x1. T;",
-        b"define q : ind -> ind = \\and:ind. and;",
-        b"define q : bool = T\xFF;",
-        b"define q : bool = p;",
-        b"define q : ind = T;",
-        b"definition",
-    ];
-    for input in &refused {
+    for input in &REFUSED {
         for piece in [4, 4096] {
             let want = "base 10\nrefused unbuilt - 0\n";
             expect_check(&rt, rt.alloc(), input, piece, (Status::Refused, want))?;
