@@ -9,6 +9,8 @@ mod output;
 mod print;
 mod read;
 mod start;
+#[cfg(test)]
+mod tests;
 mod top;
 
 pub use top::{Status, hbnf};
