@@ -5,3 +5,6 @@ mod history;
 mod kernel;
 
 pub use kernel::{Kernel, Thm, Unfit};
+
+#[cfg(test)]
+mod tests;
