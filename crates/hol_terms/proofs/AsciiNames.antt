@@ -69,7 +69,7 @@ on_step-if : (b x : Bool) (f : Bool → Bool) → on_step (cond b (Some x) None)
 on_step-if true x f = refl
 on_step-if false x f = refl
 
-segments_are : (within : Bool) (cs : Name) → are_ascii_segments within cs ≡ true → (are_segments_of within cs ≡ true) × IsAscii cs
+pub segments_are : (within : Bool) (cs : Name) → are_ascii_segments within cs ≡ true → (are_segments_of within cs ≡ true) × IsAscii cs
 segments_are within [] h = (h, IsAscii-nil)
 segments_are false (c ∷ cs) h =
     let p = and_parts (is_ascii_start c) (are_ascii_segments true cs) h in

@@ -1,9 +1,9 @@
 -- Binding a variable, and opening, keep a term well typed.
-use Rattle.std.proofs.Common.{◌≡◌, ◌≢◌, ℕ, ◌+◌, zero, suc, Bool, true, false, cond, nat_eq, List, [], ◌∷◌, ◌++◌, length, slice_get, Some, refl, ap, sym, ◌∙◌, subst, add-one, arith}
+use Rattle.std.proofs.Common.{◌≡◌, ◌≢◌, ℕ, zero, suc, Bool, true, false, cond, nat_eq, List, [], ◌∷◌, ◌++◌, length, slice_get, Some, refl, ap, sym, ◌∙◌, subst, add-one, arith}
 use Rattle.std.proofs.lemmas.Bool.Decides.{nat_tests}
 use Rattle.hol_terms.specs.Ty.{Ty}
 use Rattle.hol_terms.specs.Tm.{Tm, tm_index, tm_free, tm_const, tm_comb, tm_abs, FreeVar}
-use Rattle.hol_terms.specs.Typing.{tm_type, fun_ty, range_ty}
+use Rattle.hol_terms.specs.Typing.{fun_ty, range_ty}
 use Rattle.hol_terms.specs.Binding.{tm_bind, tm_open, var_eq}
 use Rattle.hol_terms.specs.Loose.{HasAt}
 use Rattle.hol_terms.specs.Signature.{Signature, IsOver}

@@ -1,25 +1,25 @@
 -- A new constant: its equation follows, and the definitions stay conservative.
-use Rattle.std.proofs.Common.{◌≡◌, List, [], ◌∷◌, ◌++◌, cond, Bool, true, false, Option, Some, None, refl, ap, sym, ◌∙◌, arith, bytes_eq, subst, Contains, not, ◌&&◌}
-use Rattle.std.specs.List.{list_any, flat_map}
+use Rattle.std.proofs.Common.{◌≡◌, List, [], ◌∷◌, ◌++◌, cond, Bool, true, false, Some, None, refl, ap, sym, ◌∙◌, arith, bytes_eq, subst, not, ◌&&◌}
+use Rattle.std.specs.List.{list_any}
 use Rattle.std.specs.Ordering.{is_eq}
 use Rattle.std.proofs.lemmas.List.Elements.{Contains-append_right}
 use Rattle.std.proofs.lemmas.Map.Text.{is_eq-slice_cmp}
 use Rattle.hol_terms.specs.Name.{Name, is_segment, is_name, is_numbered}
 use Rattle.hol_terms.specs.Ty.{Ty, ty_var, ty_app, Tys, no_tys, more_tys, tys}
-use Rattle.hol_terms.specs.Tm.{Tm, tm_const}
+use Rattle.hol_terms.specs.Tm.{Tm}
 use Rattle.hol_terms.specs.Subst.{ty_lookup, ty_subst, tys_subst, ty_cmp, name_cmp}
 use Rattle.hol_terms.specs.Typing.{tm_type}
-use Rattle.hol_terms.specs.TyVars.{with_var, ty_vars, tys_vars, pairs_of, own_const}
-use Rattle.hol_terms.specs.Signature.{Signature, entry_at, generic_of, is_new, IsTyOver, AreTysOver, IsConstOver, IsOver, may_introduce}
-use Rattle.hol_terms.specs.Definition.{Definition, const_def, signature_of, consts_of}
+use Rattle.hol_terms.specs.TyVars.{ty_vars, tys_vars, pairs_of, own_const}
+use Rattle.hol_terms.specs.Signature.{Signature, entry_at, generic_of, is_new, IsTyOver, AreTysOver, IsOver, may_introduce}
+use Rattle.hol_terms.specs.Definition.{Definition, const_def, signature_of}
 use Rattle.hol_terms.specs.Sequent.{seq, eq_tm}
-use Rattle.hol_terms.specs.Proves.{Proves, by_definition, IsConstDef, AreConservative, IsDerivable, sequents_of}
+use Rattle.hol_terms.specs.Proves.{Proves, by_definition, IsConstDef, AreConservative, IsDerivable}
 use Rattle.hol_terms.proofs.Order.{name_cmp-same, is_eq-same}
 use Rattle.hol_terms.proofs.Tables.{same_bytes, new_const_name, and_right}
-use Rattle.hol_terms.proofs.Weaken.{extends, consts-append, IsOver-extend, IsTyOver-extend, AreTysOver-extend, AreConservativeAfter-push}
+use Rattle.hol_terms.proofs.Weaken.{extends, consts-append, IsOver-extend, IsTyOver-extend, AreConservativeAfter-push}
 use Rattle.hol_terms.proofs.Typed.{IsOver-type, eq_over, no_hyps}
 
-entry_at-last : {A : Type 0} (es fs : List (Name × A)) (n : Name) (x : A) → entry_at es n ≡ None → entry_at (es ++ (n, x) ∷ fs) n ≡ Some x
+pub entry_at-last : {A : Type 0} (es fs : List (Name × A)) (n : Name) (x : A) → entry_at es n ≡ None → entry_at (es ++ (n, x) ∷ fs) n ≡ Some x
 entry_at-last [] fs n x e = rw (same_bytes n) refl
 entry_at-last (p ∷ es) fs n x e = at (bytes_eq p.0 n) (entry_at-last es fs n x) e
   where
@@ -32,7 +32,7 @@ generic_of-new ds c t e =
     subst (λ (es : List (Name × Ty)). entry_at es c ≡ Some (tm_type t)) (sym (consts-append ds (const_def c t ∷ []))) (entry_at-last (signature_of ds).consts [] c (tm_type t) e)
 
 -- lists of type variables that are segments
-abbrev AreVars : List Ty → Type 0
+abbrev pub AreVars : List Ty → Type 0
 AreVars [] = Unit {0}
 AreVars (ty_var n ∷ vs) = (is_segment n ≡ true) × AreVars vs
 AreVars (ty_app n ts ∷ vs) = ⊥
@@ -47,15 +47,15 @@ AreVars-with true vs n g h = h
 AreVars-with false vs n g h = AreVars-push vs n g h
 
 mutual
-  AreVars-ty_vars : (s : Signature) (t : Ty) (vs : List Ty) → IsTyOver s t → AreVars vs → AreVars (ty_vars t vs)
+  pub AreVars-ty_vars : (s : Signature) (t : Ty) (vs : List Ty) → IsTyOver s t → AreVars vs → AreVars (ty_vars t vs)
   AreVars-ty_vars s (ty_var n) vs o h = AreVars-with (list_any (λ u. is_eq (ty_cmp u (ty_var n))) vs) vs n o h
   AreVars-ty_vars s (ty_app n ts) vs o h = AreVars-tys_vars s ts vs o.1 h
 
-  AreVars-tys_vars : (s : Signature) (ts : Tys) (vs : List Ty) → AreTysOver s ts → AreVars vs → AreVars (tys_vars ts vs)
+  pub AreVars-tys_vars : (s : Signature) (ts : Tys) (vs : List Ty) → AreTysOver s ts → AreVars vs → AreVars (tys_vars ts vs)
   AreVars-tys_vars s no_tys vs o h = h
   AreVars-tys_vars s (more_tys t ts) vs o h = AreVars-tys_vars s ts (ty_vars t vs) o.1 (AreVars-ty_vars s t vs o.0 h)
 
-vars_over : (s : Signature) (vs : List Ty) → AreVars vs → AreTysOver s (tys vs)
+pub vars_over : (s : Signature) (vs : List Ty) → AreVars vs → AreTysOver s (tys vs)
 vars_over s [] h = tt
 vars_over s (ty_var n ∷ vs) h = (h.0, vars_over s vs h.1)
 vars_over s (ty_app n ts ∷ vs) h = absurd h

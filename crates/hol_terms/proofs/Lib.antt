@@ -8,6 +8,7 @@ pub mod Tables
 pub mod Weaken
 pub mod Typed
 pub mod Defining
+pub mod TypeDefining
 pub mod InstLemmas
 pub mod Instances
 pub mod TypeInst
@@ -19,3 +20,6 @@ pub mod PlainTrees
 pub mod BaseOpened
 pub mod BaseTyped
 pub mod BaseLinesRead
+pub mod DottedNames
+pub mod Same
+pub mod Replacements

@@ -1,8 +1,8 @@
 -- Names, a character at a time.
-use Rattle.std.proofs.Common.{◌≡◌, ℕ, Bool, true, false, ◌&&◌, ◌||◌, not, bytes_eq, codes, List, [], ◌∷◌, ◌++◌, length, Some, None, refl, sym, ap, ◌∙◌, arith}
+use Rattle.std.proofs.Common.{◌≡◌, ℕ, Bool, true, false, ◌||◌, not, bytes_eq, codes, List, [], ◌∷◌, ◌++◌, length, Some, None, refl, ap, ◌∙◌, arith}
 use Rattle.std.proofs.lemmas.Str.{chars_past_char, chars-nil, is_utf8-from_IsUtf8}
 use Rattle.std.specs.Char.{encode_utf8}
-use Rattle.std.specs.Str.{chars, IsUtf8, is_utf8}
+use Rattle.std.specs.Str.{chars, IsUtf8}
 use Rattle.hol_terms.specs.Name.{Name, segment_step, on_step, are_segments_of, is_keyword, is_name}
 
 pub segments-step : (w : Bool) (bs rest : List ℕ) (c : ℕ) → IsUtf8 bs → bs ≡ encode_utf8 c ++ rest → are_segments_of w (chars bs) ≡ on_step (segment_step w c) (λ next. are_segments_of next (chars rest))

@@ -1,25 +1,18 @@
 -- Opening with a fresh variable, then putting a term for it, or binding it again.
-use Rattle.std.proofs.Common.{◌≡◌, ℕ, ◌+◌, Bool, true, false, cond, ◌||◌, nat_eq, List, [], ◌∷◌, refl, ap, sym, ◌∙◌}
+use Rattle.std.proofs.Common.{◌≡◌, ℕ, ◌+◌, Bool, true, false, cond, ◌||◌, nat_eq, [], ◌∷◌, refl, ap, sym, ◌∙◌}
 use Rattle.std.proofs.lemmas.Bool.Decides.{nat_tests}
 use Rattle.std.proofs.Common.{arith}
-use Rattle.std.specs.Ordering.{is_eq, ordering_reverse, ordering_then}
+use Rattle.std.specs.Cmp.{tied_itself}
+use Rattle.std.specs.Ordering.{is_eq, ordering_then}
 use Rattle.std.specs.Cmp.Lexicographic.{nat_list_cmp_total}
-use Rattle.std.specs.declared.cmp.Ordering.{Ordering}
-use Rattle.std.specs.declared.cmp.Ordering.TheVariants.{Less, Equal, Greater}
 use Rattle.hol_terms.specs.Tm.{Tm, tm_index, tm_free, tm_const, tm_comb, tm_abs, FreeVar}
-use Rattle.hol_terms.specs.Subst.{name_cmp, ty_cmp}
-use Rattle.hol_terms.specs.Binding.{tm_bind, tm_open, tm_inst, has_free, var_eq, var_cmp}
+use Rattle.hol_terms.specs.Binding.{tm_bind, tm_open, tm_inst, has_free, var_eq}
 use Rattle.hol_terms.specs.Loose.{HasAt}
 use Rattle.hol_terms.proofs.TotalOrder.{ty_cmp_total}
 
-tied : (o : Ordering) → o ≡ ordering_reverse o → o ≡ Equal
-tied Less e = cc
-tied Equal e = refl
-tied Greater e = cc
-
 pub var_self : (v : FreeVar) → var_eq v v ≡ true
 var_self v =
-    λ i. is_eq (ordering_then (tied (name_cmp v.name v.name) (nat_list_cmp_total.antisymm v.name v.name) i) (tied (ty_cmp v.ty v.ty) (ty_cmp_total.antisymm v.ty v.ty) i))
+    λ i. is_eq (ordering_then (tied_itself nat_list_cmp_total v.name i) (tied_itself ty_cmp_total v.ty i))
 
 -- a term for an index
 abbrev pub tm_put : ℕ → Tm → Tm → Tm

@@ -1,5 +1,5 @@
 -- Tables by name: looking up, and one entry more.
-use Rattle.std.proofs.Common.{◌≡◌, ℕ, Bool, true, false, List, [], ◌∷◌, ◌++◌, Option, Some, None, is_none, ◌&&◌, cond, eq-eqb, Bor, refl, ap, sym, ◌∙◌, bytes_eq, String, string_bytes}
+use Rattle.std.proofs.Common.{◌≡◌, Bool, true, false, List, [], ◌∷◌, ◌++◌, Option, Some, None, is_none, ◌&&◌, cond, eq-eqb, Bor, refl, ap, sym, ◌∙◌, bytes_eq, String, string_bytes}
 use Rattle.std.specs.declared.alloc.Global.{Global}
 use Rattle.std.specs.Map.{lookup}
 use Rattle.std.specs.Option.{option_copied}
@@ -67,6 +67,8 @@ entry_at-push (p ∷ es) n k x f e = at (bytes_eq p.0 n) (entry_at-push es n k x
 pub abs_is_not_rep : (n : Name) → bytes_eq (dot_abs n) (dot_rep n) ≡ false
 abs_is_not_rep [] = refl
 abs_is_not_rep (b ∷ n) = rw (eq-eqb b b refl, abs_is_not_rep n) refl
+
+pub ruleset added_lemmas = (lookup-named, insert-named, new_type_name, new_const_name)
 
 -- the three names of a new type
 pub record NewNames (s : Signature) (n : Name) : Type 0 where

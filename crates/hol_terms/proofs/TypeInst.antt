@@ -5,8 +5,7 @@ use Rattle.hol_terms.specs.Ty.{Ty, ty_var, ty_app, Tys, no_tys, more_tys, tys}
 use Rattle.hol_terms.specs.Tm.{Tm, tm_index, tm_free, tm_const, tm_comb, tm_abs}
 use Rattle.hol_terms.specs.Typing.{tm_type, fun_ty, range_ty}
 use Rattle.hol_terms.specs.Subst.{TySubst, ty_lookup, ty_subst, tys_subst, tys_subst-tys}
-use Rattle.hol_terms.specs.Signature.{Signature, arity_of, IsTyOver, AreTysOver, IsOver, tys_count}
-use Rattle.hol_terms.specs.Definition.{bool_ty}
+use Rattle.hol_terms.specs.Signature.{Signature, IsTyOver, AreTysOver, IsOver, tys_count}
 use Rattle.hol_terms.specs.Sequent.{IsFormula}
 use Rattle.hol_terms.specs.Proves.{AreTypesOver}
 use Rattle.std.proofs.lemmas.List.Elements.{All-cons, All-nil, All-head, All-tail}

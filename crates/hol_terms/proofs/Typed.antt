@@ -4,8 +4,8 @@ use Rattle.hol_terms.specs.Ty.{Ty}
 use Rattle.hol_terms.specs.Tm.{Tm, tm_index, tm_free, tm_const, tm_comb, tm_abs}
 use Rattle.hol_terms.specs.Typing.{tm_type, range_ty, domain_ty, fun_ty, fun_name}
 use Rattle.hol_terms.specs.Signature.{Signature, arity_of, IsTyOver, IsConstOver, IsOver}
-use Rattle.hol_terms.specs.Definition.{Definition, signature_of, bool_ty, alpha, eq_ty}
-use Rattle.hol_terms.specs.Sequent.{Sequent, seq, eq_tm, IsFormula, IsTyped}
+use Rattle.hol_terms.specs.Definition.{Definition, signature_of, alpha, eq_ty}
+use Rattle.hol_terms.specs.Sequent.{seq, eq_tm, IsFormula, IsTyped}
 
 pub IsOver-type : (s : Signature) → arity_of s fun_name ≡ Some 2 → (bound : List Ty) (t : Tm) → IsOver s bound t → IsTyOver s (tm_type t)
 IsOver-type s k bound (tm_index i t) h = h.1

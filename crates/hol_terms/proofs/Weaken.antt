@@ -1,5 +1,5 @@
 -- What is derivable over a list of definitions is derivable over each longer one, and every sequent that follows is well typed.
-use Rattle.std.proofs.Common.{◌≡◌, ℕ, Bool, true, false, List, [], ◌∷◌, ◌++◌, cond, Option, Some, None, bytes_eq, refl, sym, ap, ◌∙◌, append_assoc, append-nil, subst, All}
+use Rattle.std.proofs.Common.{◌≡◌, ℕ, Bool, true, false, List, [], ◌∷◌, ◌++◌, cond, Some, bytes_eq, sym, ap, ◌∙◌, append_assoc, append-nil, subst}
 use Rattle.std.specs.List.{flat_map}
 use Rattle.std.proofs.lemmas.Grind.{flat_map-append}
 use Rattle.std.proofs.lemmas.List.Elements.{Contains-append_left}
@@ -8,9 +8,9 @@ use Rattle.hol_terms.specs.Ty.{Ty, ty_var, ty_app, Tys, no_tys, more_tys, tys}
 use Rattle.hol_terms.specs.Tm.{Tm, tm_index, tm_free, tm_const, tm_comb, tm_abs}
 use Rattle.hol_terms.specs.Subst.{TySubst}
 use Rattle.hol_terms.specs.Binding.{VarSubst}
-use Rattle.hol_terms.specs.Signature.{Signature, entry_at, arity_of, generic_of, tys_count, IsTyOver, AreTysOver, IsConstOver, IsOver}
+use Rattle.hol_terms.specs.Signature.{Signature, entry_at, arity_of, generic_of, tys_count, IsTyOver, AreTysOver, IsOver}
 use Rattle.hol_terms.specs.Definition.{Definition, types_of, consts_of, signature_of, start}
-use Rattle.hol_terms.specs.Sequent.{Sequent, IsFormula, IsTyped}
+use Rattle.hol_terms.specs.Sequent.{Sequent, IsTyped}
 use Rattle.hol_terms.specs.Base.{base}
 use Rattle.hol_terms.specs.Proves.{AreTypesOver, AreOver, IsPrefix, IsTypedOver, Proves, by_refl, by_trans, by_comb, by_abs, by_beta, by_assume, by_eq_mp, by_deduct, by_inst_type, by_inst, by_axiom, by_definition, IsConservative, AreConservativeAfter}
 

@@ -26,7 +26,9 @@ pub mod TmBody
 pub mod TmFalls
 pub mod TmNode
 pub mod Keeps
+pub mod Replacing
 pub mod DefShape
 pub mod Table
 pub mod WellFormed
 pub mod BaseLines
+pub mod TypeNames

@@ -1,6 +1,6 @@
 -- The connectives and quantifiers (HOL Light's definitions of them): the first ten base definitions, each constant at its type
 -- arguments, and the three axioms. Above each stands its line in canonical text.
-use Rattle.std.specs.Prelude.{ℕ, zero, suc, List, [], ◌∷◌, Option, Some, None, codes}
+use Rattle.std.specs.Prelude.{List, [], ◌∷◌, codes}
 use Rattle.hol_terms.specs.Ty.{Ty}
 use Rattle.hol_terms.specs.Tm.{Tm, tm_const}
 use Rattle.hol_terms.specs.Notation.{◌⇒◌, ◌·◌, ix, lam, beta}

@@ -1,7 +1,6 @@
 -- What may be defined, and what is derivable (HOL Light's calculus).
-use Rattle.std.specs.Prelude.{◌≡◌, true, false, List, [], ◌∷◌, ◌++◌, Contains, Option, Some}
+use Rattle.std.specs.Prelude.{◌≡◌, true, false, List, [], ◌∷◌, ◌++◌, Contains, Some}
 use Rattle.hol_terms.specs.Name.{Name, dot_abs, dot_rep}
-use Rattle.hol_terms.specs.Ty.{Ty}
 use Rattle.hol_terms.specs.Tm.{Tm, tm_free, tm_comb, FreeVar}
 use Rattle.hol_terms.specs.Typing.{tm_type, domain_ty, fun_ty}
 use Rattle.hol_terms.specs.Subst.{TySubst}

@@ -3,7 +3,7 @@ use Rattle.std.specs.Prelude.{Bool, true, false, List, [], ◌∷◌, Option, So
 use Rattle.std.specs.List.{list_any}
 use Rattle.std.specs.Ordering.{is_eq}
 use Rattle.hol_terms.specs.Ty.{Ty, ty_var}
-use Rattle.hol_terms.specs.Tm.{Tm, tm_index, tm_free, tm_const, tm_comb, tm_abs, FreeVar}
+use Rattle.hol_terms.specs.Tm.{Tm, tm_free, tm_comb, tm_abs, FreeVar}
 use Rattle.hol_terms.specs.Typing.{tm_type, fun_ty, range_ty}
 use Rattle.hol_terms.specs.Subst.{TySubst, ty_cmp}
 use Rattle.hol_terms.specs.Opening.{body_of}

@@ -1,10 +1,8 @@
 -- Sequents. Hypotheses ascend in the term order, each once.
-use Rattle.std.specs.Prelude.{◌≡◌, Bool, true, false, List, [], ◌∷◌, codes, All, refl}
-use Rattle.std.specs.Ordering.{is_eq}
+use Rattle.std.specs.Prelude.{◌≡◌, List, [], ◌∷◌, codes, All, refl}
 use Rattle.std.specs.Coded.{Coded, code_by, coded×, coded_list}
 use Rattle.std.specs.declared.cmp.Ordering.{Ordering}
 use Rattle.std.specs.declared.cmp.Ordering.TheVariants.{Less, Equal, Greater}
-use Rattle.hol_terms.specs.Ty.{Ty}
 use Rattle.hol_terms.specs.Tm.{Tm, tm_const, tm_comb, tm_code}
 use Rattle.hol_terms.specs.Typing.{tm_type}
 use Rattle.hol_terms.specs.Binding.{tm_cmp}

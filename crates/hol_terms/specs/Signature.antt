@@ -1,9 +1,9 @@
 -- Signatures, and what is well typed over one (HOL Light).
-use Rattle.std.specs.Prelude.{◌≡◌, ℕ, suc, true, Bool, ◌&&◌, not, List, [], ◌∷◌, length, if◌then◌else◌, Option, Some, None, is_none, bytes_eq, slice_get, codes}
+use Rattle.std.specs.Prelude.{◌≡◌, ℕ, suc, true, Bool, ◌&&◌, not, List, [], ◌∷◌, length, if◌then◌else◌, Option, Some, None, is_none, bytes_eq, slice_get}
 use Rattle.hol_terms.specs.Name.{Name, is_segment, is_name, is_numbered}
 use Rattle.hol_terms.specs.Ty.{Ty, ty_var, ty_app, Tys, no_tys, more_tys, tys}
 use Rattle.hol_terms.specs.Tm.{Tm, tm_index, tm_free, tm_const, tm_comb, tm_abs}
-use Rattle.hol_terms.specs.Typing.{tm_type, range_ty, fun_ty, fun_name}
+use Rattle.hol_terms.specs.Typing.{tm_type, range_ty, fun_ty}
 use Rattle.hol_terms.specs.TyVars.{ty_vars, instance_at}
 
 -- each type's number of arguments, and each constant's generic type

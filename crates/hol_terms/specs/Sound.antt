@@ -1,6 +1,6 @@
 -- What makes the lines of an output sound.
-use Rattle.std.specs.Prelude.{◌≡◌, ℕ, Bool, true, false, ◌||◌, ◌==◌, List, [], ◌∷◌, ◌++◌, if◌then◌else◌, codes, take, length, bytes_eq}
-use Rattle.hol_terms.specs.Name.{Name, is_name}
+use Rattle.std.specs.Prelude.{◌≡◌, Bool, ◌||◌, ◌==◌, List, [], ◌∷◌, ◌++◌, if◌then◌else◌, codes, take, length, bytes_eq}
+use Rattle.hol_terms.specs.Name.{Name}
 use Rattle.hol_terms.specs.Tm.{Tm}
 use Rattle.hol_terms.specs.Definition.{Definition}
 use Rattle.hol_terms.specs.Sequent.{seq}

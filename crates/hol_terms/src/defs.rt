@@ -1,5 +1,5 @@
 ghost use Rattle.std.specs.Prelude.{◌≡◌, IfOk};
-ghost use Rattle.hol_terms.specs.DefShape.{definition_of};
+ghost use Rattle.hol_terms.specs.DefShape.{definition_of, from_of};
 
 use crate::terms::Term;
 use std::alloc::{AllocError, Global};
@@ -20,9 +20,10 @@ pub enum Def {
 }
 
 impl Def {
-    /// An equal definition, over the same shared term.
+    /// The same definition with the same `from`, over the same shared term.
     pub fn copy(&self) -> Result<Def, AllocError>
-        ensures { IfOk result (λ d. definition_of d ≡ definition_of self.now) }
+        ensures value { IfOk result (λ d. definition_of d ≡ definition_of self.now) }
+        ensures step { IfOk result (λ d. from_of d ≡ from_of self.now) }
     {
         match self {
             Def::Const { name, body } => {

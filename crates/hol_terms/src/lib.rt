@@ -5,7 +5,9 @@
 pub mod defs;
 pub mod laws;
 pub mod names;
+mod replace;
 pub mod sig;
+mod sig_types;
 pub mod terms;
 #[cfg(test)]
 mod tests;

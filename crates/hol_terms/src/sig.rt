@@ -17,8 +17,8 @@ use std::marker::Model;
 /// A signature: the number of arguments of each type and the generic type of each constant, as tables by name.
 #[derive(Drop)]
 pub struct Sig {
-    types: IndexMap<String, u32>,
-    consts: IndexMap<String, HolType>,
+    pub(crate) types: IndexMap<String, u32>,
+    pub(crate) consts: IndexMap<String, HolType>,
 }
 
 impl Model for Sig {
@@ -86,10 +86,11 @@ impl Sig {
         self.arity(name).is_none() && self.generic(name).is_none()
     }
 
-    /// Adds a type with its number of arguments. After want of memory the signature is as before.
-    #[tactic(auto, using(crate::proofs::Tables::table_lemmas))]
+    /// Adds a type with its number of arguments, under a name that no type or constant has. After want of memory the signature
+    /// is as before.
+    #[tactic(auto, using(crate::proofs::Tables::added_lemmas))]
     pub fn add_type(&mut self, alloc: Global, ty: &str, arity: u32) -> Result<(), AllocError>
-        requires { arity_of self.old ty.now ≡ None }
+        requires { is_new self.old ty.now ≡ true }
         ensures ok { OnOk result (self.new ≡ with_type self.old ty.now arity) }
         ensures err { OnErr result (self.new ≡ self.old) }
     {
@@ -98,10 +99,11 @@ impl Sig {
         Ok(())
     }
 
-    /// Adds a constant with its generic type. After want of memory the signature is as before.
-    #[tactic(auto, using(crate::proofs::Tables::table_lemmas))]
+    /// Adds a constant with its generic type, under a name that no type or constant has. After want of memory the signature is
+    /// as before.
+    #[tactic(auto, using(crate::proofs::Tables::added_lemmas))]
     pub fn add_const(&mut self, alloc: Global, c: &str, generic: &HolType) -> Result<(), AllocError>
-        requires { generic_of self.old c.now ≡ None }
+        requires { is_new self.old c.now ≡ true }
         ensures ok { OnOk result (self.new ≡ with_const self.old c.now generic.now) }
         ensures err { OnErr result (self.new ≡ self.old) }
     {

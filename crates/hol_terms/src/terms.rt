@@ -181,7 +181,7 @@ impl Term {
         Term::apply(alloc, f.copy()?, x.copy()?)
     }
 
-    fn apply(alloc: Global, f: Term, x: Term) -> Result<Term, AllocError>
+    pub(crate) fn apply(alloc: Global, f: Term, x: Term) -> Result<Term, AllocError>
         requires { Takes f x }
         ensures { IfOk result (λ t. t ≡ tm_comb f x) }
     {
@@ -189,7 +189,7 @@ impl Term {
         Term::close(alloc, TermBody::Comb(f, x, ty))
     }
 
-    fn mk_lambda(alloc: Global, a: &HolType, b: Term) -> Result<Term, AllocError>
+    pub(crate) fn mk_lambda(alloc: Global, a: &HolType, b: Term) -> Result<Term, AllocError>
         requires { HasAt 0 a.now b }
         ensures { IfOk result (λ t. t ≡ tm_abs a.now b) }
     {

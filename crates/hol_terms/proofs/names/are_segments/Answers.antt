@@ -1,4 +1,4 @@
-use Rattle.std.proofs.Common.{sym, ◌∙◌, rules}
+use Rattle.std.proofs.Common.{sym, ◌∙◌}
 use Rattle.std.proofs.lemmas.Str.{IsUtf8-past_char}
 use Rattle.hol_terms.proofs.NameLemmas.{segments-go_on, segments-stop, segments-end}
 use Rattle.hol_terms.proofs.names.are_segments.Goals as goal

@@ -1,4 +1,4 @@
-use Rattle.std.proofs.Common.{sym, ◌∙◌, rules}
+use Rattle.std.proofs.Common.{sym, ◌∙◌}
 use Rattle.hol_terms.proofs.NameLemmas.{name-is}
 use Rattle.hol_terms.proofs.names.is_name.Goals as goal
 

@@ -1,4 +1,3 @@
-use Rattle.std.proofs.Common.{◌≡◌, false, bytes_eq, string_bytes}
 use Rattle.hol_terms.proofs.Tables.{abs_is_not_rep}
 use Rattle.hol_terms.proofs.sig.Sig.add_new_type.Goals as goal
 

@@ -1,4 +1,4 @@
-use Rattle.std.proofs.Common.{◌∙◌, sym, ap, refl, rules}
+use Rattle.std.proofs.Common.{◌∙◌, ap}
 use Rattle.hol_terms.specs.Signature.{generic_of}
 use Rattle.hol_terms.proofs.Tables.{lookup-named}
 use Rattle.hol_terms.proofs.sig.Sig.generic.Goals as goal
