@@ -1,0 +1,4 @@
+//! Terms of higher order logic from static tables.
+#![tactic(auto)]
+
+pub mod build;

@@ -1,0 +1,11 @@
+//! What statements are made of: the connectives over terms, and the base definitions.
+#![tactic(auto)]
+
+mod base;
+pub mod connectives;
+mod defined;
+mod tables;
+#[cfg(test)]
+mod tests;
+
+pub use base::base_def;
