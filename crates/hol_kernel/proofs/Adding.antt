@@ -1,15 +1,10 @@
 -- One definition more.
-use Rattle.std.proofs.Common.{◌≡◌, true, ◌&&◌, List, [], ◌∷◌, ◌++◌, map, refl, sym, ap, ◌∙◌, append-nil, subst, subst₂}
-use Rattle.std.specs.List.{flat_map}
+use Rattle.std.proofs.Common.{◌≡◌, true, List, [], ◌∷◌, ◌++◌, map, refl, sym, ap, ◌∙◌, append-nil}
 use Rattle.std.proofs.lemmas.Bool.{and_from}
-use Rattle.hol_terms.specs.Name.{Name, dot_abs, dot_rep}
-use Rattle.hol_terms.specs.Tm.{Tm}
-use Rattle.hol_terms.specs.Ty.{Ty}
-use Rattle.hol_terms.specs.Signature.{Signature, is_new}
+use Rattle.hol_terms.specs.Name.{dot_abs, dot_rep}
 use Rattle.hol_terms.specs.Definition.{Definition, const_def, type_def, types_of, consts_of, with_def, signature_of}
-use Rattle.hol_terms.specs.Sequent.{Sequent}
 use Rattle.hol_terms.specs.Table.{introduces_new}
-use Rattle.hol_terms.specs.Proves.{Proves, IsConservative, AreConservative, IsDerivable}
+use Rattle.hol_terms.specs.Proves.{IsConservative, AreConservative}
 use Rattle.hol_terms.proofs.Defining.{may_introduce-new}
 use Rattle.hol_terms.proofs.Weaken.{types-append, consts-append, AreConservativeAfter-push}
 
@@ -33,6 +28,3 @@ conservative_push ds d h c = AreConservativeAfter-push [] ds d h c
 pub map-push : {X Y : Type 0} (f : X → Y) (xs : List X) (x : X) → map f (xs ++ x ∷ []) ≡ map f xs ++ f x ∷ []
 map-push f [] x = refl
 map-push f (y ∷ xs) x = ap (λ ys. f y ∷ ys) (map-push f xs x)
-
-pub derivable_after : (ds : List Definition) (d : Definition) (carried : List Definition) (a : Sequent) → AreConservative ds → IsConservative ds d → Proves (ds ++ d ∷ []) a → carried ≡ ds ++ d ∷ [] → IsDerivable carried a
-derivable_after ds d carried a h c p e = subst (λ (es : List Definition). IsDerivable es a) (sym e) (record { conservative = conservative_push ds d h c; proof = p })

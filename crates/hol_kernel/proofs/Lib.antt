@@ -1,3 +1,17 @@
 pub mod Adding
 pub mod Steps
 pub mod Fitting
+pub mod Guards
+pub mod Hyps
+pub mod Ascending
+pub mod Members
+pub mod Conditions
+pub mod Textbook
+pub mod Sound
+pub mod Calculus
+pub mod Examples
+pub mod Placing
+pub mod Fits
+pub mod Keeping
+pub mod Recall
+pub mod AxiomNumbers

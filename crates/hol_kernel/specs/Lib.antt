@@ -3,4 +3,10 @@ pub mod TreeFalls
 pub mod ForestFalls
 pub mod State
 pub mod Fault
+pub mod Run
 pub mod Kept
+pub mod Ascending
+pub mod Place
+pub mod Log
+pub mod NewType
+pub mod Said

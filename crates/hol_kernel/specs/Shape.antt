@@ -1,5 +1,5 @@
 -- The definitions that a stored tree or forest holds, the oldest first. No tree is empty.
-use Rattle.std.specs.Prelude.{ℕ, ◌<◌, List, [], ◌∷◌, ◌++◌, length}
+use Rattle.std.specs.Prelude.{◌<◌, List, [], ◌∷◌, ◌++◌, length}
 use Rattle.hol_terms.specs.Definition.{Definition}
 use Rattle.hol_terms.specs.DefShape.{definition_of}
 use Rattle.hol_kernel.specs.declared.history.TreeNode.{TreeNode}

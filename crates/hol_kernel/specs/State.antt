@@ -1,7 +1,7 @@
 -- What contracts see of a theorem and of a kernel, what a kernel has, and what a call adds.
-use Rattle.std.specs.Prelude.{◌≡◌, ℕ, List, [], ◌∷◌, ◌++◌, refl, length, map, slice_get, Some}
+use Rattle.std.specs.Prelude.{◌≡◌, ℕ, List, [], ◌∷◌, ◌++◌, refl, length, slice_get, Some}
 use Rattle.std.specs.Coded.{Coded, code_by, coded×, coded_list, coded_ℕ}
-use Rattle.hol_terms.specs.Definition.{Definition, def_code, signature_of}
+use Rattle.hol_terms.specs.Definition.{Definition, def_code}
 use Rattle.hol_terms.specs.Sequent.{Sequent, sequent_code}
 use Rattle.hol_terms.specs.Proves.{IsPrefix}
 
@@ -35,3 +35,9 @@ pub record IsNewStep (old : State) (defs : List Definition) (new : State) (th : 
 -- what a kernel had, it still has
 abbrev pub KeepsAll : State → State → Type 0
 KeepsAll old new = (th : Theorem) → Has old th → Has new th
+
+-- only steps were added: the definitions are as before, and each older step and theorem is still there
+pub record Grows (old new : State) : Type 0 where
+  pub defs : new.defs ≡ old.defs
+  pub steps : (i : ℕ) (a : Sequent) → slice_get old.steps i ≡ Some a → slice_get new.steps i ≡ Some a
+  pub keeps : (th : Theorem) → Has old th → Has new th

@@ -1,15 +1,16 @@
-ghost use Rattle.std.specs.Prelude.{◌≡◌, ◌<◌, [], ◌∷◌, ◌++◌, None, map, vec_len, vec_capacity, IfOk, OnErr};
-ghost use Rattle.hol_terms.specs.Signature.{IsOver};
-ghost use Rattle.hol_terms.specs.Definition.{const_def, signature_of};
+ghost use Rattle.std.specs.Prelude.{◌≡◌, [], map, slice_get, IfOk, OnErr, IsSome, IsSomeAnd};
+ghost use Rattle.hol_terms.specs.Definition.{signature_of};
 ghost use Rattle.hol_terms.specs.DefShape.{definition_of};
-ghost use Rattle.hol_terms.specs.Typing.{tm_type};
-ghost use Rattle.hol_terms.specs.TyVars.{own_const};
-ghost use Rattle.hol_terms.specs.Sequent.{seq, eq_tm};
-ghost use Rattle.hol_terms.specs.Proves.{Proves, IsDerivable, IsConstDef, IsConservative};
-ghost use Rattle.hol_kernel.specs.State.{Has, IsNewStep, KeepsAll};
-ghost use Rattle.hol_kernel.specs.Fault.{const_fault};
+ghost use Rattle.hol_terms.specs.Sequent.{seq};
+ghost use Rattle.hol_kernel.specs.State.{Has, IsNewStep, Grows};
+ghost use Rattle.hol_kernel.specs.Run.{IsStep, IsRun};
+ghost use Rattle.hol_kernel.specs.Log.{IsLogOf};
 
 use crate::history::History;
+use crate::room::push_within;
+use crate::step::Step;
+pub use crate::theorem::Thm;
+use crate::theorem::copy_all;
 use hol_terms::defs::Def;
 use hol_terms::sig::Sig;
 use hol_terms::terms::Term;
@@ -28,9 +29,9 @@ pub enum Unfit {
 
 /// The sequent of a step.
 #[derive(Drop)]
-struct Record {
-    hyps: Vec<Term>,
-    concl: Term,
+pub(crate) struct Record {
+    pub(crate) hyps: Vec<Term>,
+    pub(crate) concl: Term,
 }
 
 impl Model for Record {
@@ -43,76 +44,28 @@ impl Model for Record {
     ghost view = { λ a. record { hyps = a.hyps.items; concl = a.concl } };
 }
 
-/// A theorem: a sequent that is derivable over the definitions that it carries, and the number of its step.
-#[derive(Drop)]
-pub struct Thm {
-    defs: History,
-    hyps: Vec<Term>,
-    concl: Term,
-    step: usize,
-}
-
-impl Model for Thm {
-    ghost use Rattle.hol_terms.specs.Proves.{IsDerivable};
-    ghost use Rattle.hol_terms.specs.Sequent.{seq};
-    ghost use Rattle.hol_kernel.specs.State.{Theorem, theorem_code};
-
-    ghost Value = { Theorem };
-
-    ghost coded = { theorem_code };
-
-    ghost view = { λ a. record { defs = a.defs; sequent = seq a.hyps.items a.concl; step = a.step } };
-
-    ghost invariant = { λ a. IsDerivable a.defs (seq a.hyps.items a.concl) };
-}
-
-impl Thm {
-    /// The hypotheses, ascending in the term order.
-    pub fn hyps(&self) -> &[Term]
-        ensures value { result.now ≡ self.now.sequent.hyps }
-        ensures derivable { IsDerivable self.now.defs self.now.sequent }
+impl Record {
+    /// The sequent with no hypothesis.
+    pub(crate) fn of_none(alloc: Global, concl: Term) -> Record
+        ensures { result ≡ seq [] concl }
     {
-        &self.hyps
-    }
-
-    /// The conclusion.
-    pub fn concl(&self) -> &Term
-        ensures value { result.now ≡ self.now.sequent.concl }
-        ensures derivable { IsDerivable self.now.defs self.now.sequent }
-    {
-        &self.concl
-    }
-
-    /// The number of the step, from 0.
-    pub fn step(&self) -> usize
-        ensures { result ≡ self.now.step }
-    {
-        self.step
-    }
-
-    /// The same theorem. It adds no step.
-    pub fn copy(&self, alloc: Global) -> Result<Thm, AllocError>
-        ensures { IfOk result (λ th. th ≡ self.now) }
-    {
-        let defs = self.defs.copy()?;
-        let hyps = copy_all(alloc, &self.hyps)?;
-        let concl = self.concl.copy()?;
-        Ok(Thm {
-            defs,
-            hyps,
+        Record {
+            hyps: Vec::new(alloc),
             concl,
-            step: self.step,
-        })
+        }
     }
 }
 
 /// The definitions and the steps so far.
 #[derive(Drop)]
 pub struct Kernel {
-    defs: Vec<Def>,
-    history: History,
-    sig: Sig,
-    steps: Vec<Record>,
+    pub(crate) defs: Vec<Def>,
+    pub(crate) history: History,
+    pub(crate) sig: Sig,
+    pub(crate) steps: Vec<Record>,
+    pub(crate) log: Vec<Step>,
+    /// Of each definition, the number of the first step that says it.
+    pub(crate) made: Vec<usize>,
 }
 
 impl Model for Kernel {
@@ -141,6 +94,8 @@ impl Kernel {
             history,
             sig,
             steps: Vec::new(alloc),
+            log: Vec::new(alloc),
+            made: Vec::new(alloc),
         })
     }
 
@@ -151,6 +106,37 @@ impl Kernel {
         &self.defs
     }
 
+    /// The steps in the order of making.
+    pub fn steps(&self) -> &[Step]
+        ensures { IsLogOf self.now result.now }
+    {
+        &self.log
+    }
+
+    /// The definitions and the steps, which give all that the kernel says.
+    pub fn defs_and_steps(&self) -> (&[Def], &[Step])
+        ensures defs { map definition_of result.0.now ≡ self.now.defs }
+        ensures run { IsRun result.0.now result.1.now self.now }
+    {
+        (&self.defs, &self.log)
+    }
+
+    /// The hypotheses of the step's sequent.
+    pub fn hyps_at(&self, step: usize) -> &[Term]
+        requires { IsSome (slice_get self.now.steps step) }
+        ensures { IsSomeAnd (slice_get self.now.steps step) (λ a. result.now ≡ a.hyps) }
+    {
+        &self.steps[step].hyps
+    }
+
+    /// The conclusion of the step's sequent.
+    pub fn concl_at(&self, step: usize) -> &Term
+        requires { IsSome (slice_get self.now.steps step) }
+        ensures { IsSomeAnd (slice_get self.now.steps step) (λ a. result.now ≡ a.concl) }
+    {
+        &self.steps[step].concl
+    }
+
     /// The signature of the definitions.
     pub fn sig(&self) -> &Sig
         ensures { result.now ≡ signature_of self.now.defs }
@@ -158,146 +144,55 @@ impl Kernel {
         &self.sig
     }
 
-    /// Why the name may not be defined as the term, in this order: the name is none, is `x` and digits or is there already; the
-    /// term has a free variable; it has a type variable that its type lacks. None where it may be, and then a term that is well
-    /// typed over the kernel's signature makes a conservative definition (HOL Light's `new_basic_definition`).
-    pub fn may_define(&self, name: &str, t: &Term) -> Option<Unfit>
-        ensures first { result ≡ const_fault self.now.defs name.now t.now }
-        ensures conservative { result ≡ None → IsOver (signature_of self.now.defs) [] t.now → IsConstDef self.now.defs name.now t.now }
-    {
-        if !self.sig.may_introduce(name) {
-            Some(Unfit::Name)
-        } else if t.has_frees() {
-            Some(Unfit::Free)
-        } else if !t.is_within(t.type_of()) {
-            Some(Unfit::TypeVar)
-        } else {
-            None
-        }
-    }
-
-    /// REFL: `|- t = t`. After want of memory the kernel is as before.
-    pub fn refl(&mut self, alloc: Global, t: &Term) -> Result<Thm, AllocError>
-        requires { IsOver (signature_of self.old.defs) [] t.now }
-        ensures ok { IfOk result (λ th. IsNewStep self.old self.old.defs self.new th (seq [] (eq_tm t.now t.now))) }
-        ensures err { OnErr result (self.new ≡ self.old) }
-        ensures has { IfOk result (λ th. Has self.new th) }
-        ensures keeps { KeepsAll self.old self.new }
-    {
-        let concl = Term::mk_eq(alloc, t, t)?;
-        let th = self.add(alloc, Vec::new(alloc), concl)?;
-        Ok(th)
-    }
-
-    /// Defines a constant: the definition is added, and `|- c = t` is the next step, with c at the type variables of its type
-    /// (HOL Light's `new_basic_definition`). After want of memory the kernel is as before.
-    pub fn define(&mut self, alloc: Global, name: &str, t: &Term) -> Result<Thm, AllocError>
-        requires fit { const_fault self.old.defs name.now t.now ≡ None }
-        requires typed { IsOver (signature_of self.old.defs) [] t.now }
-        ensures ok { IfOk result (λ th. IsNewStep self.old (self.old.defs ++ const_def name.now t.now ∷ []) self.new th (seq [] (eq_tm (own_const name.now (tm_type t.now)) t.now))) }
-        ensures err { OnErr result (self.new ≡ self.old) }
-        ensures has { IfOk result (λ th. Has self.new th) }
-        ensures keeps { KeepsAll self.old self.new }
-    {
-        let c = Term::mk_own_const(alloc, name, t.type_of())?;
-        let concl = Term::mk_eq(alloc, &c, t)?;
-        let name = String::from_str(alloc, name)?;
-        let body = t.copy()?;
-        let th = self.add_const(alloc, Def::Const { name, body }, concl)?;
-        Ok(th)
-    }
-
-    fn add(&mut self, alloc: Global, hyps: Vec<Term>, concl: Term) -> Result<Thm, AllocError>
-        requires { Proves self.old.defs (seq hyps.items concl) }
+    /// Adds the step, whose sequent the kernel has from now on.
+    pub(crate) fn add(
+        &mut self,
+        alloc: Global,
+        step: Step,
+        hyps: Vec<Term>,
+        concl: Term,
+    ) -> Result<Thm, AllocError>
+        requires { IsStep self.old step (seq hyps.items concl) }
+        ensures exact { IfOk result (λ th. th.sequent ≡ seq hyps.items concl) }
         ensures ok { IfOk result (λ th. IsNewStep self.old self.old.defs self.new th (seq hyps.items concl)) }
         ensures err { OnErr result (self.new ≡ self.old) }
         ensures has { IfOk result (λ th. Has self.new th) }
-        ensures keeps { KeepsAll self.old self.new }
+        ensures grows { Grows self.old self.new }
     {
-        let th = self.add_step(alloc, hyps, concl)?;
+        let th = self.add_step(alloc, step, hyps, concl)?;
         Ok(th)
     }
 
-    fn add_step(&mut self, alloc: Global, hyps: Vec<Term>, concl: Term) -> Result<Thm, AllocError>
-        requires { Proves self.old.defs (seq hyps.items concl) }
+    fn add_step(
+        &mut self,
+        alloc: Global,
+        step: Step,
+        hyps: Vec<Term>,
+        concl: Term,
+    ) -> Result<Thm, AllocError>
+        requires { IsStep self.old step (seq hyps.items concl) }
         ensures ok { IfOk result (λ th. IsNewStep self.old self.old.defs self.new th (seq hyps.items concl)) }
         ensures err { OnErr result (self.new ≡ self.old) }
     {
         let defs = self.history.copy()?;
         let kept = copy_all(alloc, &hyps)?;
         let said = concl.copy()?;
-        let step = self.steps.len();
-        self.steps.push(Record {
-            hyps: kept,
-            concl: said,
-        })?;
+        self.steps.reserve(1)?;
+        self.log.reserve(1)?;
+        let number = self.steps.len();
+        push_within(
+            &mut self.steps,
+            Record {
+                hyps: kept,
+                concl: said,
+            },
+        );
+        push_within(&mut self.log, step);
         Ok(Thm {
             defs,
             hyps,
             concl,
-            step,
+            step: number,
         })
     }
-
-    fn add_const(&mut self, alloc: Global, d: Def, concl: Term) -> Result<Thm, AllocError>
-        requires fit { IsConservative self.old.defs (definition_of d) }
-        requires proved { Proves (self.old.defs ++ definition_of d ∷ []) (seq [] concl) }
-        ensures ok { IfOk result (λ th. IsNewStep self.old (self.old.defs ++ definition_of d ∷ []) self.new th (seq [] concl)) }
-        ensures err { OnErr result (self.new ≡ self.old) }
-        ensures has { IfOk result (λ th. Has self.new th) }
-        ensures keeps { KeepsAll self.old self.new }
-    {
-        let th = self.add_const_step(alloc, d, concl)?;
-        Ok(th)
-    }
-
-    fn add_const_step(&mut self, alloc: Global, d: Def, concl: Term) -> Result<Thm, AllocError>
-        requires fit { IsConservative self.old.defs (definition_of d) }
-        requires proved { Proves (self.old.defs ++ definition_of d ∷ []) (seq [] concl) }
-        ensures ok { IfOk result (λ th. IsNewStep self.old (self.old.defs ++ definition_of d ∷ []) self.new th (seq [] concl)) }
-        ensures err { OnErr result (self.new ≡ self.old) }
-    {
-        let history = self.history.with(alloc, &d)?;
-        let carried = history.copy()?;
-        let said = concl.copy()?;
-        self.defs.reserve(1)?;
-        self.steps.reserve(1)?;
-        self.sig.add_def(alloc, &d)?;
-        let step = self.steps.len();
-        push_within(
-            &mut self.steps,
-            Record {
-                hyps: Vec::new(alloc),
-                concl: said,
-            },
-        );
-        push_within(&mut self.defs, d);
-        self.history = history;
-        Ok(Thm {
-            defs: carried,
-            hyps: Vec::new(alloc),
-            concl,
-            step,
-        })
-    }
-}
-
-fn copy_all(alloc: Global, terms: &[Term]) -> Result<Vec<Term>, AllocError>
-    ensures { IfOk result (λ v. v.items ≡ terms.now) }
-{
-    let mut new = Vec::new(alloc);
-    for term in terms {
-        new.push(term.copy()?)?;
-    }
-    Ok(new)
-}
-
-/// Pushes where there is room, which takes no memory.
-fn push_within<T: Drop>(items: &mut Vec<T>, item: T)
-    requires { vec_len items.old < vec_capacity items.old }
-    ensures { items.new.items ≡ items.old.items ++ item ∷ [] }
-{
-    let Ok(()) = items.push(item) else {
-        unreachable!()
-    };
 }

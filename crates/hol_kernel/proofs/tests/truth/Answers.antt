@@ -1,4 +1,4 @@
-use Rattle.std.proofs.Common.{List, [], refl, rules}
+use Rattle.std.proofs.Common.{List, [], refl}
 use Rattle.hol_terms.specs.Tm.{Tm, tm_index, tm_abs}
 use Rattle.hol_terms.specs.Signature.{IsOver}
 use Rattle.hol_terms.specs.Definition.{Definition, signature_of, bool_ty}
@@ -11,5 +11,8 @@ identity = tm_abs bool_ty (tm_index 0 bool_ty)
 identity_over : (ds : List Definition) → IsOver (signature_of ds) [] identity
 identity_over ds = ((refl, tt), (refl, (refl, tt)))
 
-pub returns : goal.returns
-returns c = λ ds. rw (c.in_ok-equation.ensures, c.in_ok-id.ensures, c.in_ok-free.ensures, c.in_ok-x.ensures, c.in_ok-ty.ensures) (eq_over ds [] identity identity (identity_over ds) (identity_over ds) refl)
+pub returns-clause-over : goal.returns-clause-over
+returns-clause-over c = λ ds. rw (c.in_ok-equation.ensures, c.in_ok-id.ensures) (eq_over ds [] identity identity (identity_over ds) (identity_over ds) refl)
+
+pub returns-clause-boolean : goal.returns-clause-boolean
+returns-clause-boolean c = rw (c.in_ok-equation.ensures) refl

@@ -1,36 +1,38 @@
-use Rattle.std.proofs.Common.{◌≡◌, ◌++◌, ◌∷◌, [], List, true, map, sym, ap, ◌∙◌, subst, rules}
-use Rattle.hol_terms.specs.Definition.{Definition, signature_of, with_def}
-use Rattle.hol_terms.specs.DefShape.{definition_of}
-use Rattle.hol_terms.specs.Sequent.{seq}
-use Rattle.hol_terms.specs.Tm.{Tm}
+use Rattle.std.proofs.Common.{◌≡◌, [], List, length, refl, sym, ap, ◌∙◌, subst, string_bytes}
+use Rattle.hol_terms.specs.Definition.{Definition, const_def, signature_of}
+use Rattle.hol_terms.specs.Sequent.{seq, eq_tm}
+use Rattle.hol_terms.specs.Typing.{tm_type}
+use Rattle.hol_terms.specs.TyVars.{own_const}
+use Rattle.hol_terms.specs.declared.defs.Def.TheVariants.{Const}
 use Rattle.hol_terms.specs.Table.{introduces_new}
-use Rattle.hol_terms.specs.Proves.{Proves, IsConservative, AreConservative}
-use Rattle.hol_kernel.proofs.Adding.{conservative_new, signature_of-push, conservative_push, derivable_after, map-push}
+use Rattle.hol_terms.specs.Proves.{IsConstDef}
+use Rattle.hol_kernel.specs.declared.step.Step.TheVariants as step
+use Rattle.hol_kernel.proofs.Adding.{conservative_new}
+use Rattle.hol_kernel.proofs.Keeping.{kept_const, pushed, defined_derivable}
 use Rattle.hol_kernel.proofs.kernel.Kernel.add_const_step.Goals as goal
 
 pub add_def-requires-clause-new : goal.add_def-requires-clause-new
 add_def-requires-clause-new c =
-    let d = definition_of c.args.d in
+    let d = const_def (string_bytes c.args.name) c.args.body in
     let table : c.self.inside.sig ≡ signature_of c.args.self.now.defs = c.self.invariant.table ∙ ap (λ k. signature_of k.defs) c.self.view_is in
     ap (λ s. introduces_new s d) table ∙ conservative_new c.args.self.now.defs d c.requires.fit
 
-pub invariant_of-result : goal.invariant_of-result
-invariant_of-result c =
-    let d = definition_of c.args.d in
-    let ds = c.args.self.now.defs in
-    let kept : c.self.inside.history ≡ ds = ap (λ k. k.defs) c.self.view_is in
-    let carried : c.in_ok-carried.carried ≡ ds ++ d ∷ [] = c.in_ok-carried.ensures ∙ c.in_ok-history.ensures ∙ ap (λ es. es ++ d ∷ []) kept in
-    let proved = subst (λ (hs : List Tm). Proves (ds ++ d ∷ []) (seq hs c.args.concl)) (sym c.new-2.ensures.items) c.requires.proved in
-    derivable_after ds d c.in_ok-carried.carried (seq c.new-2.result.items c.args.concl) (subst AreConservative kept c.self.invariant.conservative) c.requires.fit proved carried
+pub said-requires : goal.said-requires
+said-requires c =
+    let fit = subst (λ (es : List Definition). IsConstDef es (string_bytes c.args.name) c.args.body) (sym (ap (λ k. k.defs) c.self.view_is)) c.requires.fit in
+    defined_derivable _ _ _ _ c.self.invariant.conservative fit c.in_ok-history.ensures (ap (seq []) c.requires.said)
 
 pub invariant_of-self-2 : goal.invariant_of-self-2
 invariant_of-self-2 c =
-    let d = definition_of c.args.d in
-    let old = c.self.inside.history in
-    let fit = subst (λ (es : List Definition). IsConservative es d) (sym (ap (λ k. k.defs) c.self.view_is)) c.requires.fit in
-    record {
-      conservative = subst AreConservative (sym c.in_ok-history.ensures) (conservative_push old d c.self.invariant.conservative fit);
-      listed = ap (λ v. map definition_of v) c.push_within-2.ensures ∙ map-push definition_of c.reserve.new.self.items c.args.d
-          ∙ ap (λ es. es ++ d ∷ []) (ap (λ v. map definition_of v) c.reserve.ensures.items ∙ c.self.invariant.listed) ∙ sym c.in_ok-history.ensures;
-      table = c.in_ok-add_def.ensures.ok ∙ ap (λ s. with_def s d) c.self.invariant.table ∙ signature_of-push old d ∙ ap signature_of (sym c.in_ok-history.ensures);
-    }
+    let fit = subst (λ (es : List Definition). IsConstDef es (string_bytes c.args.name) c.args.body) (sym (ap (λ k. k.defs) c.self.view_is)) c.requires.fit in
+    let a = c.self.inside in
+    let said : c.of_none.result ≡ seq [] (eq_tm (own_const (string_bytes c.args.name) (tm_type c.args.body)) c.args.body) = c.of_none.ensures ∙ ap (seq []) c.requires.said in
+    let place : c.len-place.result ≡ length a.defs.items = c.len-place.ensures ∙ a.defs.ok.0 in
+    let number : c.len-number.result ≡ length a.steps.items = c.len-number.ensures ∙ a.steps.ok.0 in
+    kept_const a _ c.args.name c.args.body c.self.invariant fit
+    (pushed a.defs.items (Const c.args.name c.args.body) (Const c.args.name c.args.body) c.push_within-4.ensures.items c.make_room.ensures.defs refl)
+    c.in_ok-history.ensures
+    c.in_ok-add_def.ensures.ok
+    (pushed a.steps.items c.of_none.result _ c.push_within.ensures.items c.make_room.ensures.steps said)
+    (pushed a.log.items (step.Const c.len-place.result) _ c.push_within-2.ensures.items c.make_room.ensures.log (ap step.Const place))
+    (pushed a.made.items c.len-number.result _ c.push_within-3.ensures.items c.make_room.ensures.made number)
