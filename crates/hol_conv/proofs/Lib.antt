@@ -1,0 +1,9 @@
+pub mod Contracting
+pub mod FreshLemmas
+pub mod RuleLemmas
+pub mod ContractLemmas
+pub mod NormLemmas
+pub mod Filling
+pub mod RewriteLemmas
+pub mod PlaceLemmas
+pub mod TestLemmas

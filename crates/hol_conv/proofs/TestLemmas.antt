@@ -1,0 +1,22 @@
+-- Terms of the tests.
+use Rattle.std.proofs.Common.{◌≡◌, List, [], refl, ap, subst}
+use Rattle.hol_terms.specs.Tm.{Tm, tm_comb}
+use Rattle.hol_terms.specs.Typing.{tm_type}
+use Rattle.hol_terms.specs.Signature.{Signature, IsOver}
+use Rattle.hol_terms.specs.Definition.{Definition, bool_ty, signature_of}
+use Rattle.hol_conv.specs.Conv.{IsRedex}
+use Rattle.hol_conv.specs.Samples.{truth, identity}
+
+pub redex_over : (ds : List Definition) (t r : Tm) → r ≡ tm_comb identity t → tm_type t ≡ bool_ty → IsOver (signature_of ds) [] t → IsOver (signature_of ds) [] r
+redex_over ds t r e h o = rw (e) (((refl, tt), (refl, (refl, tt))), o, rw (h) refl)
+
+pub redex_type : (t r : Tm) → r ≡ tm_comb identity t → tm_type r ≡ bool_ty
+redex_type t r e = rw (e) refl
+
+pub is_redex : (t r : Tm) → r ≡ tm_comb identity t → IsRedex r
+is_redex t r e = rw (e) (record { applied = refl; abstraction = refl })
+
+pub truth_type : (t : Tm) → t ≡ truth → tm_type t ≡ bool_ty
+truth_type t e = rw (e) refl
+
+pub ruleset sample_lemmas = (redex_over, redex_type, is_redex, truth_type)

@@ -1,0 +1,11 @@
+-- Terms of the tests.
+use Rattle.std.specs.Prelude.{[], codes}
+use Rattle.hol_terms.specs.Tm.{Tm, tm_index, tm_const, tm_abs}
+use Rattle.hol_terms.specs.Definition.{bool_ty}
+
+abbrev pub truth : Tm
+truth = tm_const (codes "T") [] bool_ty
+
+-- `\x. x`
+abbrev pub identity : Tm
+identity = tm_abs bool_ty (tm_index 0 bool_ty)

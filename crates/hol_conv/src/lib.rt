@@ -1,0 +1,8 @@
+//! Conversions: theorems `t = u` that compute u from t (HOL Light's conversions).
+#![tactic(auto)]
+
+pub mod beta;
+mod fresh;
+pub mod rewrite;
+#[cfg(test)]
+mod tests;
