@@ -1,8 +1,7 @@
 -- The four outputs answer their inputs, are sound, and are laid out.
-use Rattle.std.proofs.Common.{◌≡◌, ◌≢◌, ℕ, ◌+◌, ◌<◌, ◌≤◌, Bool, true, false, List, [], ◌∷◌, ◌++◌, length, take, refl, sym, ap, ◌∙◌, subst, codes, string_bytes, append_assoc, append-nil, Some, eqb-true, arith}
-use Rattle.std.specs.List.{list_any}
+use Rattle.std.proofs.Common.{◌≡◌, ◌≢◌, ◌+◌, ◌<◌, ◌≤◌, Bool, true, false, List, [], ◌∷◌, ◌++◌, length, take, refl, sym, ap, ◌∙◌, subst, codes, append_assoc, append-nil, eqb-true, arith}
 use Rattle.hol_terms.specs.Text.{Text, ty_text, tm_text, definition_line, theorem_line}
-use Rattle.hol_terms.specs.Definition.{Definition, const_def, signature_of}
+use Rattle.hol_terms.specs.Definition.{Definition, const_def}
 use Rattle.hol_terms.specs.Sequent.{eq_tm}
 use Rattle.hol_terms.specs.Typing.{tm_type}
 use Rattle.hol_terms.specs.TyVars.{own_const}
@@ -13,11 +12,10 @@ use Rattle.hol_terms.specs.Tm.{Tm}
 use Rattle.hol_terms.specs.Proves.{IsConstDef}
 use Rattle.std.proofs.lemmas.Bool.{true≢false}
 use Rattle.std.specs.Prelude.{◌==◌}
-use Rattle.hb_top.specs.Answer.{limit, in_force, base_line, IsAnswer, IsUnbuilt, answers, is_refusal, define_fact, section_line}
+use Rattle.hb_top.specs.Answer.{limit, in_force, base_line, IsAnswer, answers}
 use Rattle.hb_top.specs.Layout.{unlines}
 use Rattle.hb_top.specs.Headline.{IsCheck, HasAnswer}
 use Rattle.hb_top.proofs.OutputLines.{is_line}
-use Rattle.hb_top.proofs.NoNewline as quiet
 use Rattle.hb_top.proofs.NoNewline.{line_append, command_lines}
 use Rattle.hb_top.proofs.Defined.{command_defines}
 use Rattle.hb_top.proofs.Written.{one_command}

@@ -1,4 +1,3 @@
-pub mod BuildingLemmas
 pub mod OutputLines
 pub mod Outputs
 pub mod FrontLemmas

@@ -1,11 +1,13 @@
 -- The base definitions by their places.
-use Rattle.std.proofs.Common.{◌≡◌, ℕ, zero, suc, ◌+◌, ◌≤◌, List, [], ◌∷◌, ◌++◌, take, length, map, slice_get, Option, Some, refl, sym, ap, ◌∙◌, add-one, arith}
+use Rattle.std.proofs.Common.{◌≡◌, ℕ, zero, suc, ◌+◌, ◌<◌, Bool, true, false, List, [], ◌∷◌, ◌++◌, take, slice_get, Some, refl, ap, add-one, arith}
+use Rattle.std.specs.List.{list_all}
+use Rattle.std.proofs.lemmas.Bool.{and_parts}
 use Rattle.hol_terms.specs.Name.{Name}
 use Rattle.hol_terms.specs.Tm.{Tm}
-use Rattle.hol_terms.specs.Definition.{Definition, const_def}
-use Rattle.hol_terms.specs.DefShape.{definition_of}
+use Rattle.hol_terms.specs.Definition.{Definition, const_def, type_def}
 use Rattle.hol_terms.specs.Base.{base, base_definitions}
 use Rattle.hol_terms.specs.Logic.{base_1, base_2, base_3, base_4, base_5, base_6, base_7, base_8, base_9, base_10}
+use Rattle.hb_top.specs.Answer.{in_force}
 
 take-push : {X : Type 0} (xs : List X) (k : ℕ) (x : X) → slice_get xs k ≡ Some x → take k xs ++ x ∷ [] ≡ take (suc k) xs
 take-push [] k x e = cc
@@ -15,44 +17,23 @@ take-push (y ∷ xs) (suc k) x e = ap (λ ys. y ∷ ys) (take-push xs k x e)
 pub base-push : (k : ℕ) (d : Definition) → slice_get base_definitions k ≡ Some d → base k ++ d ∷ [] ≡ base (k + 1)
 base-push k d e = rw add-one (take-push base_definitions k d e)
 
-pub at_0 : slice_get base_definitions 0 ≡ Some base_1
-unfolding base_definitions
-at_0 = refl
+abbrev is_constant : Definition → Bool
+is_constant (const_def c t) = true
+is_constant (type_def n p) = false
 
-pub at_1 : slice_get base_definitions 1 ≡ Some base_2
-unfolding base_definitions
-at_1 = refl
+constants_at : (ds : List Definition) (m k : ℕ) (n : Name) (p : Tm) → list_all is_constant (take m ds) ≡ true → k < m → slice_get ds k ≡ Some (type_def n p) → ⊥
+constants_at [] m k n p a l e = cc
+constants_at (d ∷ ds) zero k n p a l e = omega arith
+constants_at (const_def c t ∷ ds) (suc m) zero n p a l e = cc
+constants_at (type_def c t ∷ ds) (suc m) zero n p a l e = cc
+constants_at (d ∷ ds) (suc m) (suc k) n p a l e = constants_at ds m k n p (and_parts (is_constant d) (list_all is_constant (take m ds)) a).1 (omega arith) e
 
-pub at_2 : slice_get base_definitions 2 ≡ Some base_3
-unfolding base_definitions
-at_2 = refl
+all_constants : list_all is_constant (base in_force) ≡ true
+unfolding base_definitions base_1 base_2 base_3 base_4 base_5 base_6 base_7 base_8 base_9 base_10
+all_constants = refl
 
-pub at_3 : slice_get base_definitions 3 ≡ Some base_4
-unfolding base_definitions
-at_3 = refl
+-- the base definitions in force are of constants
+pub no_type_at : (k : ℕ) (n : Name) (p : Tm) → k < in_force → slice_get base_definitions k ≡ Some (type_def n p) → ⊥
+no_type_at k n p l e = constants_at base_definitions in_force k n p all_constants l e
 
-pub at_4 : slice_get base_definitions 4 ≡ Some base_5
-unfolding base_definitions
-at_4 = refl
-
-pub at_5 : slice_get base_definitions 5 ≡ Some base_6
-unfolding base_definitions
-at_5 = refl
-
-pub at_6 : slice_get base_definitions 6 ≡ Some base_7
-unfolding base_definitions
-at_6 = refl
-
-pub at_7 : slice_get base_definitions 7 ≡ Some base_8
-unfolding base_definitions
-at_7 = refl
-
-pub at_8 : slice_get base_definitions 8 ≡ Some base_9
-unfolding base_definitions
-at_8 = refl
-
-pub at_9 : slice_get base_definitions 9 ≡ Some base_10
-unfolding base_definitions
-at_9 = refl
-
-pub ruleset places = (at_0, at_1, at_2, at_3, at_4, at_5, at_6, at_7, at_8, at_9)
+pub ruleset no_type_lemmas = (no_type_at)

@@ -1,9 +1,6 @@
 -- What `check` answers to a text, which lines of an output are its answer, and how an output is laid out.
-use Rattle.std.specs.Prelude.{◌≡◌, ◌≢◌, ℕ, ◌<◌, ◌≤◌, Bool, true, false, ◌||◌, List, [], ◌∷◌, ◌++◌, length, filter, codes}
-use Rattle.std.specs.List.{flat_map, list_any, list_all}
+use Rattle.std.specs.Prelude.{◌≡◌, ◌≢◌, ℕ, ◌<◌, ◌≤◌, Bool, ◌||◌, List, [], ◌∷◌, ◌++◌, length, filter, codes}
 use Rattle.std.specs.Fmt.{decimal}
-use Rattle.hol_terms.specs.Name.{Name}
-use Rattle.hol_terms.specs.Tm.{Tm}
 use Rattle.hol_terms.specs.TyVars.{own_const}
 use Rattle.hol_terms.specs.Sequent.{eq_tm}
 use Rattle.hol_terms.specs.Text.{Text, theorem_line}

@@ -1,11 +1,10 @@
 -- What the program promises of the words, the input, the output and the status.
-use Rattle.std.specs.Prelude.{◌≡◌, ℕ, ◌+◌, Bool, true, false, List, [], ◌∷◌, ◌++◌, Option, Some, None, take, drop, bytes_eq, codes, map, string_bytes, String}
+use Rattle.std.specs.Prelude.{◌≡◌, ℕ, ◌+◌, Bool, true, false, List, [], ◌∷◌, ◌++◌, Option, Some, drop, bytes_eq, codes, string_bytes, String}
 use Rattle.std.specs.List.{list_any}
 use Rattle.std.specs.declared.alloc.Global.{Global}
 use Rattle.hol_terms.specs.Text.{Text}
 use Rattle.hol_terms.specs.Sound.{IsSound}
 use Rattle.hol_terms.specs.Base.{base}
-use Rattle.hb_io.specs.Told.{Appends}
 use Rattle.hb_top.specs.Answer.{limit, in_force, IsAnswer, answers, is_refusal}
 use Rattle.hb_top.specs.Layout.{IsOwned}
 use Rattle.hb_top.specs.declared.top.Status.{Status}

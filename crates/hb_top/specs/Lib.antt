@@ -2,7 +2,6 @@ pub mod Command
 pub mod Answer
 pub mod Layout
 pub mod Outcome
-pub mod Building
 pub mod Reading
 pub mod Reads
 pub mod Around

@@ -1,7 +1,6 @@
 //! The calls of the program `hbnf`, from words and bytes to lines and a status.
 #![tactic(auto)]
 
-mod base;
 mod fronts;
 mod input;
 pub mod laws;

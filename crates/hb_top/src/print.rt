@@ -335,49 +335,53 @@ pub fn theorem_line(alloc: Global, name: &str, concl: &Term) -> Result<String, A
 #[cfg(test)]
 mod tests {
     use super::{definition_line, push_type, theorem_line};
-    use crate::base;
+    use hol_terms::defs::Def;
     use hol_terms::terms::{Term, Var};
     use hol_terms::types::HolType;
+    use std::alloc::{AllocError, Global};
     use std::test::Fail;
+    use stmt_core::base_def;
+
+    // Numbers of base definitions, and their lines.
+    static BASE_LINES: [(u32, &str); 6] = [
+        (
+            2,
+            "def conj : bool -> bool -> bool = \\x0:bool. \\x1:bool. (\\x2:bool -> bool -> bool. x2 x0 x1) = (\\x2:bool -> bool -> bool. x2 T T)",
+        ),
+        (
+            3,
+            "def imp : bool -> bool -> bool = \\x0:bool. \\x1:bool. (x0 /\\ x1) = x0",
+        ),
+        (
+            5,
+            "def ex : ('a -> bool) -> bool = \\x0:'a -> bool. !x1:bool. (!x2:'a. x0 x2 ==> x1) ==> x1",
+        ),
+        (8, "def not : bool -> bool = \\x0:bool. x0 ==> F"),
+        (
+            9,
+            "def one_one : ('a -> 'b) -> bool = \\x0:'a -> 'b. !x1:'a. !x2:'a. (x0 x1 = x0 x2) ==> (x1 = x2)",
+        ),
+        (
+            10,
+            "def onto : ('a -> 'b) -> bool = \\x0:'a -> 'b. !x1:'b. ?x2:'a. x1 = x0 x2",
+        ),
+    ];
+
+    // The line of a constant's definition.
+    fn line_of(alloc: Global, def: &Def) -> Result<String, AllocError> {
+        match def {
+            Def::Const { name, body } => definition_line(alloc, name, body),
+            Def::NewType { name, .. } => name.clone(),
+        }
+    }
 
     #[test]
     fn prints_base_definitions(rt: HostRuntime) -> Result<(), Fail> {
         let alloc = rt.alloc();
-        let table = [
-            (
-                "conj",
-                base::conjunction(alloc)?,
-                "def conj : bool -> bool -> bool = \\x0:bool. \\x1:bool. (\\x2:bool -> bool -> bool. x2 x0 x1) = (\\x2:bool -> bool -> bool. x2 T T)",
-            ),
-            (
-                "imp",
-                base::implication(alloc)?,
-                "def imp : bool -> bool -> bool = \\x0:bool. \\x1:bool. (x0 /\\ x1) = x0",
-            ),
-            (
-                "ex",
-                base::existential(alloc)?,
-                "def ex : ('a -> bool) -> bool = \\x0:'a -> bool. !x1:bool. (!x2:'a. x0 x2 ==> x1) ==> x1",
-            ),
-            (
-                "not",
-                base::negation(alloc)?,
-                "def not : bool -> bool = \\x0:bool. x0 ==> F",
-            ),
-            (
-                "one_one",
-                base::one_one(alloc)?,
-                "def one_one : ('a -> 'b) -> bool = \\x0:'a -> 'b. !x1:'a. !x2:'a. (x0 x1 = x0 x2) ==> (x1 = x2)",
-            ),
-            (
-                "onto",
-                base::onto(alloc)?,
-                "def onto : ('a -> 'b) -> bool = \\x0:'a -> 'b. !x1:'b. ?x2:'a. x1 = x0 x2",
-            ),
-        ];
-        for (name, body, want) in &table {
-            let line = definition_line(alloc, name, body)?;
-            assert_eq!(rt; line.as_str(), *want);
+        for (n, want) in &BASE_LINES {
+            assert!(rt; 0 < *n && *n <= 52);
+            let def = base_def(alloc, *n)?;
+            assert_eq!(rt; line_of(alloc, &def)?.as_str(), *want);
         }
         Ok(())
     }

@@ -1,7 +1,10 @@
 //! What no clause says: that commands are done where there is memory, whole outputs as bytes, and what faults come to.
 
-ghost use Rattle.std.specs.Prelude.{ℕ, ◌<◌};
+ghost use Rattle.std.specs.Prelude.{ℕ, ◌<◌, IsSome};
+ghost use Rattle.hol_kernel.specs.Run.{axiom_at};
 
+use crate::print::theorem_line;
+use crate::start::start;
 use crate::{Status, hbnf};
 use hb_io::{MemSink, MemSource, Source};
 use std::alloc::{AllocError, Global};
@@ -172,6 +175,33 @@ fn faults(rt: HostRuntime) -> Result<(), Fail> {
             assert_eq!(rt; next, [b'd', b'e', b'f', b'i'], "the source is untouched");
         }
     }
+    Ok(())
+}
+
+// The line of an axiom, from a kernel with the base definitions.
+fn axiom_line(alloc: Global, n: u32) -> Result<String, AllocError>
+    requires { IsSome (axiom_at n) }
+{
+    let mut kernel = start(alloc)?;
+    let th = kernel.axiom(alloc, n)?;
+    theorem_line(alloc, "axiom", th.concl())
+}
+
+#[test]
+fn axioms_are_added(rt: HostRuntime) -> Result<(), Fail> {
+    let alloc = rt.alloc();
+    assert_eq!(rt;
+        axiom_line(alloc, 1)?.as_str(),
+        "thm axiom : !x0:'a -> 'b. (\\x1:'a. x0 x1) = x0"
+    );
+    assert_eq!(rt;
+        axiom_line(alloc, 2)?.as_str(),
+        "thm axiom : !x0:'a -> bool. !x1:'a. x0 x1 ==> x0 (some{'a} x0)"
+    );
+    assert_eq!(rt;
+        axiom_line(alloc, 3)?.as_str(),
+        "thm axiom : ?x0:ind -> ind. one_one{ind,ind} x0 /\\ (~ onto{ind,ind} x0)"
+    );
     Ok(())
 }
 

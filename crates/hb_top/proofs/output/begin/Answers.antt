@@ -1,4 +1,4 @@
-use Rattle.std.specs.Fmt.{decimal, digits}
+use Rattle.std.specs.Fmt.{digits}
 use Rattle.hb_top.proofs.output.begin.Goals as goal
 
 pub returns : goal.returns

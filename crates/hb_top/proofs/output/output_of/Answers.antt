@@ -1,4 +1,4 @@
-use Rattle.std.proofs.Common.{◌≡◌, ap, sym, ◌∙◌, arith, refl, string_bytes, rules}
+use Rattle.std.proofs.Common.{◌∙◌, arith}
 use Rattle.hol_terms.specs.Proves.{IsConstDef}
 use Rattle.hb_top.specs.Reads.{Reads}
 use Rattle.hol_kernel.proofs.Fitting.{fault_free}

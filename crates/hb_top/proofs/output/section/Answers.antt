@@ -1,7 +1,7 @@
-use Rattle.std.proofs.Common.{◌≡◌, ◌++◌, ap, sym, ◌∙◌, codes, string_bytes, refl}
+use Rattle.std.proofs.Common.{◌≡◌, ◌++◌, ap, ◌∙◌, codes}
 use Rattle.hol_terms.specs.Definition.{const_def}
 use Rattle.hol_terms.specs.Tm.{Tm}
-use Rattle.hol_terms.specs.Text.{Text, definition_line, theorem_line}
+use Rattle.hol_terms.specs.Text.{definition_line, theorem_line}
 use Rattle.hol_terms.specs.Sequent.{eq_tm}
 use Rattle.hol_terms.specs.TyVars.{own_const}
 use Rattle.hol_terms.specs.Typing.{tm_type}

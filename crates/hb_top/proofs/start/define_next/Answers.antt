@@ -1,6 +1,5 @@
-use Rattle.std.proofs.Common.{◌≡◌, List, ◌++◌, ◌∷◌, [], sym, ap, ◌∙◌, subst, refl, rules}
-use Rattle.hol_terms.specs.Definition.{Definition, const_def, signature_of}
-use Rattle.hol_terms.specs.Signature.{IsOver}
+use Rattle.std.proofs.Common.{List, ◌++◌, ◌∷◌, [], sym, ap, ◌∙◌, subst, refl}
+use Rattle.hol_terms.specs.Definition.{Definition, const_def}
 use Rattle.hol_terms.specs.Proves.{IsConstDef}
 use Rattle.hol_terms.proofs.BaseTyped.{const_def_at}
 use Rattle.hol_kernel.proofs.Fitting.{fault_free}

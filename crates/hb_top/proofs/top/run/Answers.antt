@@ -1,7 +1,7 @@
-use Rattle.std.proofs.Common.{◌≡◌, subst, sym, string_bytes}
+use Rattle.std.proofs.Common.{subst, string_bytes}
 use Rattle.hol_terms.specs.Text.{Text}
 use Rattle.hb_top.specs.Headline.{IsCheck}
-use Rattle.hb_top.proofs.Running.{Ran, run_checks, run_decides, run_leaves}
+use Rattle.hb_top.proofs.Running.{run_checks, run_decides, run_leaves}
 use Rattle.hb_top.proofs.top.run.Goals as goal
 
 pub returns-clause-check : goal.returns-clause-check
