@@ -4,6 +4,8 @@ use Rattle.hol_terms.specs.Tm.{Tm, tm_comb}
 use Rattle.hol_terms.specs.Typing.{tm_type}
 use Rattle.hol_terms.specs.Signature.{Signature, IsOver}
 use Rattle.hol_terms.specs.Definition.{Definition, bool_ty, signature_of}
+use Rattle.hol_terms.specs.Sequent.{eq_tm}
+use Rattle.hol_terms.proofs.Typed.{eq_over}
 use Rattle.hol_conv.specs.Conv.{IsRedex}
 use Rattle.hol_conv.specs.Samples.{truth, identity}
 
@@ -19,4 +21,7 @@ is_redex t r e = rw (e) (record { applied = refl; abstraction = refl })
 pub truth_type : (t : Tm) → t ≡ truth → tm_type t ≡ bool_ty
 truth_type t e = rw (e) refl
 
-pub ruleset sample_lemmas = (redex_over, redex_type, is_redex, truth_type)
+pub both_over : (ds : List Definition) (r e : Tm) → e ≡ eq_tm r r → IsOver (signature_of ds) [] r → IsOver (signature_of ds) [] e
+both_over ds r e d o = rw (d) (eq_over ds [] r r o o refl)
+
+pub ruleset sample_lemmas = (redex_over, redex_type, is_redex, truth_type, both_over)
