@@ -4,8 +4,10 @@
 mod base;
 pub mod connectives;
 mod defined;
+mod facts;
 mod tables;
 #[cfg(test)]
 mod tests;
 
 pub use base::base_def;
+pub use facts::{Fact, LogicFact, ProductFact, SumFact, fact_stmt};
