@@ -1,0 +1,4 @@
+//! Types and terms as text.
+#![tactic(auto)]
+
+pub mod print;
