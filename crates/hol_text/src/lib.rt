@@ -2,3 +2,5 @@
 #![tactic(auto)]
 
 pub mod print;
+#[cfg(test)]
+mod tests;
