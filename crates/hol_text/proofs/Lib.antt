@@ -1,2 +1,4 @@
 pub mod PrintLemmas
 pub mod TestLemmas
+pub mod Examples
+pub mod ReadBackTokens

@@ -1,1 +1,4 @@
+pub mod Tokens
+pub mod Meaning
+pub mod Reading
 pub mod Printing

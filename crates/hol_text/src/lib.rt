@@ -1,6 +1,7 @@
-//! Types and terms as text.
+//! Types and terms as text: printed in canonical form, and read.
 #![tactic(auto)]
 
+pub mod laws;
 pub mod print;
 #[cfg(test)]
 mod tests;
