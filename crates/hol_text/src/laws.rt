@@ -1,7 +1,7 @@
 //! Laws.
 
 /// For a check of the lemmas.
-#[tactic(auto, using(crate::proofs::ReadBackTokens::done))]
-pub fn tokens_law() -> u8 {
+#[tactic(auto, using(crate::proofs::ReadBackTypes::reads_type))]
+pub fn types_law() -> u8 {
     1
 }
