@@ -1,1 +1,3 @@
+pub mod Characters
 pub mod Examples
+pub mod Lexing

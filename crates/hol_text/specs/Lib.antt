@@ -1,3 +1,5 @@
-pub mod Tokens
+pub mod LexerViews
 pub mod Meaning
 pub mod Reading
+pub mod TokenViews
+pub mod Tokens
