@@ -1,5 +1,7 @@
-pub mod PrintLemmas
-pub mod TestLemmas
+pub mod Characters
 pub mod Examples
+pub mod Lexing
+pub mod PrintLemmas
 pub mod ReadBackTokens
 pub mod ReadBackTypes
+pub mod TestLemmas

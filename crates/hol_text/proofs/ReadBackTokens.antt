@@ -160,18 +160,19 @@ unfolding chars
 chars_ascii b [] h = rw h refl
 chars_ascii b (c ∷ r) h = rw h refl
 
-end_name : (q p : ℕ) (w : Name) (r : Text) → Ends r → p ≡ q + length w → tokens_in (in_name q w) p (chars r) ≡ word w q ∷ tokens_from p r
+end_name : (q p : ℕ) (w : Name) (r : Text) → Ends r → tokens_in (in_name q w) p (chars r) ≡ word w q ∷ tokens_from p r
 unfolding chars encode
-end_name q p w _ ends_text e = refl
-end_name q p w _ (ends_sign b r h o) e = rw (chars_ascii b r h, o) refl
-end_name q p w _ (ends_dot []) e = ap (λ k. word w q ∷ sign dot k ∷ tokens_from ((p + 1) + 1) []) (sym e)
-end_name q p w _ (ends_dot (b ∷ r)) e = ap (λ k. word w q ∷ sign dot k ∷ tokens_from ((p + 1) + 1) (b ∷ r)) (sym e)
+end_name q p w _ ends_text = refl
+end_name q p w _ (ends_sign b r h o) = rw (chars_ascii b r h, o) refl
+end_name q p w _ (ends_dot []) = refl
+end_name q p w _ (ends_dot (b ∷ r)) = refl
 
 -- ---- names and type variables
 
-abbrev state : Bool → ℕ → Name → State
-state true q w = in_name q w
-state false q w = after_dot q w
+-- in a segment, or behind a dot at d
+abbrev state : Bool → ℕ → ℕ → Name → State
+state true d q w = in_name q w
+state false d q w = after_dot q w d
 
 -- what a name is so far
 abbrev so_far : Bool → Name → Name
@@ -195,28 +196,28 @@ dot_code : encode 46 ≡ codes "."
 unfolding encode
 dot_code = refl
 
-segments : (w : Bool) (cs ds : List ℕ) (q p : ℕ) (u : Name) → are_segments_of w cs ≡ true
-    → tokens_in (state w q u) p (cs ++ ds) ≡ tokens_in (in_name q (so_far w u ++ encodes cs)) (p + length (encodes cs)) ds
-segments true [] ds q p u h = λ i. tokens_in (in_name q (sym (no_more u) i)) (let e : p ≡ p + 0 = omega arith in e i) ds
-segments false [] ds q p u h = absurd (unlike (sym h))
-segments true (c ∷ cs) ds q p u h = at (λ w k v. segments w cs ds q k v) (c == 46) (is_xid_continue c) refl (continues_is c) h
+segments : (w : Bool) (cs ds : List ℕ) (d q p : ℕ) (u : Name) → are_segments_of w cs ≡ true
+    → tokens_in (state w d q u) p (cs ++ ds) ≡ tokens_in (in_name q (so_far w u ++ encodes cs)) (p + length (encodes cs)) ds
+segments true [] ds d q p u h = λ i. tokens_in (in_name q (sym (no_more u) i)) (let e : p ≡ p + 0 = omega arith in e i) ds
+segments false [] ds d q p u h = absurd (unlike (sym h))
+segments true (c ∷ cs) ds d q p u h = at (λ w m k v. segments w cs ds m q k v) (c == 46) (is_xid_continue c) refl (continues_is c) h
   where
-    at : ((w : Bool) (k : ℕ) (v : Name) → are_segments_of w cs ≡ true → tokens_in (state w q v) k (cs ++ ds) ≡ tokens_in (in_name q (so_far w v ++ encodes cs)) (k + length (encodes cs)) ds) → (b d : Bool) → (c == 46) ≡ b → continues c ≡ d → on_step (cond b (Some false) (cond d (Some true) None)) (λ next. are_segments_of next cs) ≡ true
+    at : ((w : Bool) (m k : ℕ) (v : Name) → are_segments_of w cs ≡ true → tokens_in (state w m q v) k (cs ++ ds) ≡ tokens_in (in_name q (so_far w v ++ encodes cs)) (k + length (encodes cs)) ds) → (b z : Bool) → (c == 46) ≡ b → continues c ≡ z → on_step (cond b (Some false) (cond z (Some true) None)) (λ next. are_segments_of next cs) ≡ true
         → tokens_in (in_name q u) p (c ∷ cs ++ ds) ≡ tokens_in (in_name q (u ++ (encode c ++ encodes cs))) (p + length (encode c ++ encodes cs)) ds
-    at more true d e f g =
+    at more true z e f g =
         let x : (u ++ codes ".") ++ encodes cs ≡ u ++ (encode c ++ encodes cs) = append_assoc u (codes ".") (encodes cs) ∙ ap (λ v. u ++ (v ++ encodes cs)) (sym (ap encode (is_dot c e) ∙ dot_code)) in
-        rw e (more false (p + length (encode c)) u g ∙ (λ i. tokens_in (in_name q (x i)) (further p (encode c) (encodes cs) i) ds))
+        rw e (more false p (p + length (encode c)) u g ∙ (λ i. tokens_in (in_name q (x i)) (further p (encode c) (encodes cs) i) ds))
     at more false true e f g =
         let x : (u ++ encode c) ++ encodes cs ≡ u ++ (encode c ++ encodes cs) = append_assoc u (encode c) (encodes cs) in
-        rw (e, f) (more true (p + length (encode c)) (u ++ encode c) g ∙ (λ i. tokens_in (in_name q (x i)) (further p (encode c) (encodes cs) i) ds))
+        rw (e, f) (more true p (p + length (encode c)) (u ++ encode c) g ∙ (λ i. tokens_in (in_name q (x i)) (further p (encode c) (encodes cs) i) ds))
     at more false false e f g = absurd (unlike (sym g))
-segments false (c ∷ cs) ds q p u h = at (λ w k v. segments w cs ds q k v) (is_start c) (starts_is c) h
+segments false (c ∷ cs) ds d q p u h = at (λ w m k v. segments w cs ds m q k v) (is_start c) (starts_is c) h
   where
-    at : ((w : Bool) (k : ℕ) (v : Name) → are_segments_of w cs ≡ true → tokens_in (state w q v) k (cs ++ ds) ≡ tokens_in (in_name q (so_far w v ++ encodes cs)) (k + length (encodes cs)) ds) → (b : Bool) → starts c ≡ b → on_step (cond b (Some true) None) (λ next. are_segments_of next cs) ≡ true
-        → tokens_in (after_dot q u) p (c ∷ cs ++ ds) ≡ tokens_in (in_name q ((u ++ codes ".") ++ (encode c ++ encodes cs))) (p + length (encode c ++ encodes cs)) ds
+    at : ((w : Bool) (m k : ℕ) (v : Name) → are_segments_of w cs ≡ true → tokens_in (state w m q v) k (cs ++ ds) ≡ tokens_in (in_name q (so_far w v ++ encodes cs)) (k + length (encodes cs)) ds) → (b : Bool) → starts c ≡ b → on_step (cond b (Some true) None) (λ next. are_segments_of next cs) ≡ true
+        → tokens_in (after_dot q u d) p (c ∷ cs ++ ds) ≡ tokens_in (in_name q ((u ++ codes ".") ++ (encode c ++ encodes cs))) (p + length (encode c ++ encodes cs)) ds
     at more true f g =
         let x : ((u ++ codes ".") ++ encode c) ++ encodes cs ≡ (u ++ codes ".") ++ (encode c ++ encodes cs) = append_assoc (u ++ codes ".") (encode c) (encodes cs) in
-        rw f (more true (p + length (encode c)) ((u ++ codes ".") ++ encode c) g ∙ (λ i. tokens_in (in_name q (x i)) (further p (encode c) (encodes cs) i) ds))
+        rw f (more true p (p + length (encode c)) ((u ++ codes ".") ++ encode c) g ∙ (λ i. tokens_in (in_name q (x i)) (further p (encode c) (encodes cs) i) ds))
     at more false f g = absurd (unlike (sym g))
 
 -- a name, whose first segment begins here
@@ -226,7 +227,7 @@ name_from (c ∷ cs) ds p h = at (is_start c) (starts_is c) h
   where
     at : (b : Bool) → starts c ≡ b → on_step (cond b (Some true) None) (λ next. are_segments_of next cs) ≡ true
         → tokens_in between p (c ∷ cs ++ ds) ≡ tokens_in (in_name p (encode c ++ encodes cs)) (p + length (encode c ++ encodes cs)) ds
-    at true f g = rw (letter_is c f) (segments true cs ds p (p + length (encode c)) (encode c) g ∙ ap (λ k. tokens_in (in_name p (encode c ++ encodes cs)) k ds) (further p (encode c) (encodes cs)))
+    at true f g = rw (letter_is c f) (segments true cs ds p p (p + length (encode c)) (encode c) g ∙ ap (λ k. tokens_in (in_name p (encode c ++ encodes cs)) k ds) (further p (encode c) (encodes cs)))
     at false f g = absurd (unlike (sym g))
 
 pub either : (a b : Bool) → (a || b) ≡ true → (a ≡ true) ⊎ (b ≡ true)
@@ -253,7 +254,7 @@ at_name p n r h e =
     word_from : (p : ℕ) (n : Name) (r : Text) → IsUtf8 n → are_segments_of false (chars n) ≡ true → is_keyword n ≡ false → Ends r → tokens_from p (n ++ r) ≡ token a_name n p ∷ tokens_from (p + length n) r
     word_from p n r u s k e =
         ap (tokens_in between p) (chars-append n r u) ∙ name_from (chars n) (chars r) p s ∙ (λ i. tokens_in (in_name p (encodes-chars n u i)) (p + length (encodes-chars n u i)) (chars r))
-        ∙ end_name p (p + length n) n r e refl ∙ ap (λ b. token (word_kind b) n p ∷ tokens_from (p + length n) r) k
+        ∙ end_name p (p + length n) n r e ∙ ap (λ b. token (word_kind b) n p ∷ tokens_from (p + length n) r) k
     zero_from : (p : ℕ) (n : Name) (r : Text) → bytes_eq n (codes "0") ≡ true → tokens_from p (n ++ r) ≡ token a_name n p ∷ tokens_from (p + length n) r
     zero_from p n r z = let x : n ≡ codes "0" = (bytes_eq-Decides n (codes "0")).0 z in rw x (at_zero p r)
 

@@ -1,4 +1,6 @@
-pub mod Tokens
+pub mod LexerViews
 pub mod Meaning
-pub mod Reading
 pub mod Printing
+pub mod Reading
+pub mod TokenViews
+pub mod Tokens

@@ -127,13 +127,14 @@ pub data State : Type 0 where
   between : State
   comment : State
   in_name : ℕ → Name → State
-  -- a name, and a dot behind it
-  after_dot : ℕ → Name → State
+  -- a name, and where a dot stands behind it
+  after_dot : ℕ → Name → ℕ → State
   after_quote : ℕ → State
   in_variable : ℕ → Name → State
   after_minus : ℕ → State
   after_equal : ℕ → State
-  after_equals : ℕ → State
+  -- where each of two stands
+  after_equals : ℕ → ℕ → State
   after_slash : ℕ → State
   after_backslash : ℕ → State
 
@@ -162,13 +163,13 @@ begin p c = begin_by (class_of c) p c
 
 abbrev pub name_by : Part → ℕ → Name → ℕ → ℕ → Step
 name_by of_segment q w p c = ([], in_name q (w ++ encode_utf8 c))
-name_by of_dot q w p c = ([], after_dot q w)
+name_by of_dot q w p c = ([], after_dot q w p)
 name_by outside q w p c = behind (word w q) (begin p c)
 
 -- a dot between a segment and the first character of one belongs to the name
-abbrev pub dot_by : Bool → ℕ → Name → ℕ → ℕ → Step
-dot_by true q w p c = ([], in_name q ((w ++ codes ".") ++ encode_utf8 c))
-dot_by false q w p c = behind (word w q) (behind (sign dot (q + length w)) (begin p c))
+abbrev pub dot_by : Bool → ℕ → Name → ℕ → ℕ → ℕ → Step
+dot_by true q w d p c = ([], in_name q ((w ++ codes ".") ++ encode_utf8 c))
+dot_by false q w d p c = behind (word w q) (behind (sign dot d) (begin p c))
 
 abbrev pub quote_by : Bool → ℕ → ℕ → ℕ → Step
 quote_by true q p c = ([], in_variable q (encode_utf8 c))
@@ -184,13 +185,13 @@ pair_by true k j q p c = (sign k q ∷ [], between)
 pair_by false k j q p c = behind (sign j q) (begin p c)
 
 abbrev pub equal_by : Bool → ℕ → ℕ → ℕ → Step
-equal_by true q p c = ([], after_equals q)
+equal_by true q p c = ([], after_equals q p)
 equal_by false q p c = behind (sign equals q) (begin p c)
 
 -- `==>`, or else `=` and then the same of what follows it
-abbrev pub equals_by : Bool → ℕ → ℕ → ℕ → Step
-equals_by true q p c = (sign implies_sign q ∷ [], between)
-equals_by false q p c = behind (sign equals q) (equal_by (c == 61) (q + 1) p c)
+abbrev pub equals_by : Bool → ℕ → ℕ → ℕ → ℕ → Step
+equals_by true q r p c = (sign implies_sign q ∷ [], between)
+equals_by false q r p c = behind (sign equals q) (equal_by (c == 61) r p c)
 
 abbrev pub comment_by : Bool → Step
 comment_by true = ([], between)
@@ -201,12 +202,12 @@ abbrev pub step : State → ℕ → ℕ → Step
 step between p c = begin p c
 step comment p c = comment_by (c == 10)
 step (in_name q w) p c = name_by (part_of c) q w p c
-step (after_dot q w) p c = dot_by (starts c) q w p c
+step (after_dot q w d) p c = dot_by (starts c) q w d p c
 step (after_quote q) p c = quote_by (starts c) q p c
 step (in_variable q w) p c = variable_by (continues c) q w p c
 step (after_minus q) p c = pair_by (c == 62) arrow no_token q p c
 step (after_equal q) p c = equal_by (c == 61) q p c
-step (after_equals q) p c = equals_by (c == 62) q p c
+step (after_equals q r) p c = equals_by (c == 62) q r p c
 step (after_slash q) p c = pair_by (c == 92) and_sign no_token q p c
 step (after_backslash q) p c = pair_by (c == 47) or_sign lambda_sign q p c
 
@@ -215,12 +216,12 @@ abbrev pub last : State → List Token
 last between = []
 last comment = []
 last (in_name q w) = word w q ∷ []
-last (after_dot q w) = word w q ∷ sign dot (q + length w) ∷ []
+last (after_dot q w d) = word w q ∷ sign dot d ∷ []
 last (after_quote q) = sign no_token q ∷ []
 last (in_variable q w) = token a_variable w q ∷ []
 last (after_minus q) = sign no_token q ∷ []
 last (after_equal q) = sign equals q ∷ []
-last (after_equals q) = sign equals q ∷ sign equals (q + 1) ∷ []
+last (after_equals q r) = sign equals q ∷ sign equals r ∷ []
 last (after_slash q) = sign no_token q ∷ []
 last (after_backslash q) = sign lambda_sign q ∷ []
 

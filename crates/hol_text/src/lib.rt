@@ -2,6 +2,8 @@
 #![tactic(auto)]
 
 pub mod laws;
+pub mod lexer;
 pub mod print;
 #[cfg(test)]
 mod tests;
+pub mod tokens;
