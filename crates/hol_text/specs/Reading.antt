@@ -1,7 +1,7 @@
 -- Reading types and terms, from left to right. One reading gives all three refusals: a text that is no type or term by the
 -- grammar, and else the first fault. A number bounds how deep a text nests and how long its lists are: the number of its tokens
 -- is enough, since each level and each member takes one.
-use Rattle.std.specs.Prelude.{ℕ, zero, suc, Bool, true, false, ◌==◌, List, [], ◌∷◌, ◌++◌, length, if◌then◌else◌, Option, Some, None, bytes_eq, codes}
+use Rattle.std.specs.Prelude.{ℕ, zero, suc, ◌+◌, Bool, true, false, ◌==◌, List, [], ◌∷◌, ◌++◌, length, if◌then◌else◌, Option, Some, None, bytes_eq, codes}
 use Rattle.std.specs.List.{list_any}
 use Rattle.hol_terms.specs.Name.{Name}
 use Rattle.hol_terms.specs.Ty.{Ty, ty_var}
@@ -270,7 +270,7 @@ only_meaning (got x ts) = got x.meaning ts
 only_meaning (stop p) = stop p
 
 unfoldable pub reading_of_type : Signature → Text → Reading Ty
-reading_of_type s t = whole (type_at s (length (tokens t)) (tokens t))
+reading_of_type s t = whole (type_at s (length t + 1) (tokens t))
 
 unfoldable pub reading_of_term : Signature → Text → Reading Tm
-reading_of_term s t = whole (only_meaning (term_at s (length (tokens t)) [] (tokens t)))
+reading_of_term s t = whole (only_meaning (term_at s (length t + 1) [] (tokens t)))
