@@ -3,6 +3,8 @@ pub mod Examples
 pub mod Lexing
 pub mod PrintLemmas
 pub mod ReadBackTokens
+pub mod ReadBack
+pub mod ReadBackAtoms
 pub mod ReadBackBinders
 pub mod ReadBackTypes
 pub mod TestLemmas

@@ -182,7 +182,7 @@ so_far false w = w ++ codes "."
 further : (p : ℕ) (a b : List ℕ) → (p + length a) + length b ≡ p + length (a ++ b)
 further p a b = omega (arith, length-append a b)
 
-no_more : (w : Name) → w ++ [] ≡ w
+pub no_more : (w : Name) → w ++ [] ≡ w
 no_more [] = refl
 no_more (b ∷ w) = ap (λ v. b ∷ v) (no_more w)
 

@@ -97,7 +97,7 @@ variable_part : (s : Signature) (v : Name) → is_segment v ≡ true → (n p : 
 unfolding dtype_at
 variable_part s v h n p r e = record { place = (p + 1) + length v; is = ap (dtype_at s (type_at s n) n) (at_variable p v r h e) }
 
-as_many : (k : ℕ) → (k == k) ≡ true
+pub as_many : (k : ℕ) → (k == k) ≡ true
 as_many k = eq-eqb k k refl
 
 applied_is : (s : Signature) (c : Name) (p : ℕ) (ts : Tys) → arity_of s c ≡ Some (tys_count ts) → applied s c p (given (ty_list ts)) ≡ means (ty_app c ts)
