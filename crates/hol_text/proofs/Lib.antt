@@ -2,6 +2,7 @@ pub mod Characters
 pub mod Examples
 pub mod Lexing
 pub mod PrintLemmas
+pub mod ReadBackLeaves
 pub mod ReadBackTokens
 pub mod ReadBack
 pub mod ReadBackAtoms

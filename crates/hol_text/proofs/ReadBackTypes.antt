@@ -252,7 +252,7 @@ arrow_reads s c a b e f x y = record {
     text_is : ty_text (ty_app c (more_tys a (more_tys b no_tys))) ≡ parenthesized (is_function a) (ty_text a) ++ (codes " -> " ++ ty_text b)
     text_is = rw e (append_assoc (parenthesized (is_function a) (ty_text a)) (codes " -> ") (ty_text b))
 
-commas_count : (ts : Tys) → tys_count ts ≤ length (flat_map (λ y. codes "," ++ y) (tys_texts ts))
+pub commas_count : (ts : Tys) → tys_count ts ≤ length (flat_map (λ y. codes "," ++ y) (tys_texts ts))
 commas_count no_tys = omega arith
 commas_count (more_tys t ts) = omega (arith, commas_count ts, length-append (codes "," ++ ty_text t) (flat_map (λ y. codes "," ++ y) (tys_texts ts)))
 
