@@ -5,6 +5,7 @@ pub mod PrintLemmas
 pub mod ReadBackLeaves
 pub mod ReadBackTokens
 pub mod ReadBack
+pub mod ReadBackApplications
 pub mod ReadBackAtoms
 pub mod ReadBackBinders
 pub mod ReadBackTypes

@@ -106,14 +106,14 @@ pub record ReadsTm (s : Signature) (bound : List Ty) (t : Tm) : Type 0 where
       → Goes s bound n (application_at s (term_at s n) n (scope bound) (tokens_from p (text_at bound t ++ r))) (in_scope bound t) r (length (text_at bound t))
   pub whole : (n p : ℕ) (r : Text) → length (text_at bound t) < n → Closed r → Gives (term_at s n (scope bound) (tokens_from p (text_at bound t ++ r))) (in_scope bound t) r
 
-by_atom : (k : Kind) (s : Signature) (read : Reader) (n : ℕ) (b : Scope) (ts : List Token) → begins_atom k ≡ true
+pub by_atom : (k : Kind) (s : Signature) (read : Reader) (n : ℕ) (b : Scope) (ts : List Token) → begins_atom k ≡ true
     → term_by k s read n b ts ≡ (application_at s read n b ts >>= (λ a rest. infix_by (head_kind rest) s (application_at s read n b) a rest))
 by_atom a_name s read n b ts h = refl
 by_atom open_bracket s read n b ts h = refl
 by_atom open_paren s read n b ts h = refl
 by_atom k s read n b ts h = cc
 
-infix_stop : (k : Kind) (s : Signature) (read : List Token → Front Operand) (a : Operand) (ts : List Token) → closes_term k ≡ true → infix_by k s read a ts ≡ got a ts
+pub infix_stop : (k : Kind) (s : Signature) (read : List Token → Front Operand) (a : Operand) (ts : List Token) → closes_term k ≡ true → infix_by k s read a ts ≡ got a ts
 infix_stop the_end s read a ts h = refl
 infix_stop close_paren s read a ts h = refl
 infix_stop k s read a ts h = cc
