@@ -3,6 +3,7 @@ pub mod Examples
 pub mod Lexing
 pub mod PrintLemmas
 pub mod ReadBackLeaves
+pub mod ReadBackSugar
 pub mod ReadBackTokens
 pub mod ReadBack
 pub mod ReadBackApplications

@@ -121,8 +121,6 @@ application_goes s bound f x k j o n p r l e =
     let a = argument_gives s bound x j n (g.place + 1) r (omega arith) e in
     at g.left g.enough g.first g.place a (g.is ∙ ap (atoms_at (atom_at s (term_at s n) n (scope bound)) g.left (operand (means (in_scope bound f)) g.first)) (at_blank g.place (argument_text bound x ++ r)))
   where
-    app : Front Operand
-    app = application_at s (term_at s n) n (scope bound) (tokens_from p (operand_text bound f ++ (codes " " ++ (argument_text bound x ++ r))))
     at : (left : ℕ) → n < left + length (operand_text bound f) → (first place : ℕ)
         → Gives (atom_at s (term_at s n) n (scope bound) (tokens_from (place + 1) (argument_text bound x ++ r))) (in_scope bound x) r
         → application_at s (term_at s n) n (scope bound) (tokens_from p (operand_text bound f ++ (codes " " ++ (argument_text bound x ++ r)))) ≡ atoms_at (atom_at s (term_at s n) n (scope bound)) left (operand (means (in_scope bound f)) first) (tokens_from (place + 1) (argument_text bound x ++ r))
