@@ -4,6 +4,7 @@ pub mod Lexing
 pub mod PrintLemmas
 pub mod ReadBackLeaves
 pub mod ReadBackSugar
+pub mod ReadBackTerms
 pub mod ReadBackTokens
 pub mod ReadBack
 pub mod ReadBackApplications

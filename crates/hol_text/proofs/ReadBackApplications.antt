@@ -40,7 +40,7 @@ argument_text bound t = parenthesized (not (is_atom t)) (text_at bound t)
 inside : (x r : Text) → (codes "(" ++ x ++ codes ")") ++ r ≡ codes "(" ++ (x ++ (codes ")" ++ r))
 inside x r = simp append_assoc
 
-paren_length : (x : Text) → length (codes "(" ++ x ++ codes ")") ≡ length x + 2
+pub paren_length : (x : Text) → length (codes "(" ++ x ++ codes ")") ≡ length x + 2
 paren_length x = omega (arith, length-append (codes "(" ++ x) (codes ")"))
 
 paren_starts : (x : Text) (p : ℕ) (r : Text) → begins_atom (head_kind (tokens_from p ((codes "(" ++ x ++ codes ")") ++ r))) ≡ true
@@ -137,7 +137,7 @@ application_goes s bound f x k j o n p r l e =
           ∙ ap (λ z. atoms_at (atom_at s (term_at s n) n (scope bound)) left z (tokens_from a.place r)) (apply_is (in_scope bound f) (in_scope bound x) first a.first (fits_in s bound f x o))
     }
 
-application_text : (bound : List Ty) (f x : Tm) → sugar f x ≡ none → text_at bound (tm_comb f x) ≡ operand_text bound f ++ (codes " " ++ argument_text bound x)
+pub application_text : (bound : List Ty) (f x : Tm) → sugar f x ≡ none → text_at bound (tm_comb f x) ≡ operand_text bound f ++ (codes " " ++ argument_text bound x)
 application_text bound f x e = rw e (append_assoc (operand_text bound f) (codes " ") (argument_text bound x))
 
 -- an application without sugar

@@ -108,7 +108,7 @@ constant_closed s c ts ty t b o e z p =
 eq_domain : (A a r ty : Ty) → ty ≡ eq_ty A → ty ≡ fun_ty a r → A ≡ a
 eq_domain A a r ty e h = cc
 
-same_name : (c n : Name) → bytes_eq c n ≡ true → c ≡ n
+pub same_name : (c n : Name) → bytes_eq c n ≡ true → c ≡ n
 same_name c n e = (bytes_eq-Decides c n).0 e
 
 -- with one type argument
@@ -281,7 +281,7 @@ not_sugar (tm_const c us t) ts ty = refl
 not_sugar (tm_comb f y) ts ty = refl
 not_sugar (tm_abs t d) ts ty = refl
 
-not_text : (bound : List Ty) (x : Tm) (ts : List Ty) (ty : Ty) → text_at bound (tm_comb (tm_const (codes "not") ts ty) x) ≡ codes "~ " ++ operand_text bound x
+pub not_text : (bound : List Ty) (x : Tm) (ts : List Ty) (ty : Ty) → text_at bound (tm_comb (tm_const (codes "not") ts ty) x) ≡ codes "~ " ++ operand_text bound x
 not_text bound x ts ty = rw (not_sugar x ts ty) refl
 
 not_plain : (x : Tm) (ts : List Ty) (ty : Ty) → is_plain (tm_comb (tm_const (codes "not") ts ty) x) ≡ false

@@ -18,7 +18,7 @@ pub fn types_are_told_by_their_text()
 {}
 
 /// For a check of the lemmas.
-#[tactic(auto, using(crate::proofs::ReadBackLeaves::free_reads, crate::proofs::ReadBackSugar::ex_reads))]
+#[tactic(auto, using(crate::proofs::ReadBackLeaves::free_reads, crate::proofs::ReadBackTerms::reads_term))]
 pub fn terms_law() -> u8 {
     1
 }
