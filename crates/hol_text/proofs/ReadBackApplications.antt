@@ -28,7 +28,7 @@ paren_gives s bound t k n p r l =
       place = g.place + 1;
       is = ap (atom_at s (term_at s n) n (scope bound)) (at_open_paren p (text_at bound t ++ (codes ")" ++ r)))
           ∙ ap (λ x. x >>= (λ t rest. expect_by (is_close_paren (head_kind rest)) t rest)) g.is
-          ∙ ap (λ ts. expect_by (is_close_paren (head_kind ts)) (operand (means (in_scope bound t)) g.first) ts) (at_close_paren g.place r)
+          ∙ ap (λ ts. expect_by (is_close_paren (head_kind ts)) (operand (means (in_scope bound t)) g.first) ts) (at_close_paren g.place r);
     }
 
 abbrev pub operand_text : List Ty → Tm → Text
@@ -79,7 +79,7 @@ operand_goes s bound t k n p r l f = at (is_plain t) refl l
     at false h m =
         let e = paren_length (text_at bound t) in
         atom_spine s bound (codes "(" ++ text_at bound t ++ codes ")") (in_scope bound t) n p r (omega (arith, e))
-          (leads (ap (λ y. atom_at s (term_at s n) n (scope bound) (tokens_from p y)) (inside (text_at bound t) r)) (paren_gives s bound t k n p r (omega (arith, e))))
+        (leads (ap (λ y. atom_at s (term_at s n) n (scope bound) (tokens_from p y)) (inside (text_at bound t) r)) (paren_gives s bound t k n p r (omega (arith, e))))
 
 pub argument_gives : (s : Signature) (bound : List Ty) (t : Tm) → ReadsTm s bound t → (n p : ℕ) (r : Text) → length (argument_text bound t) ≤ n → Follows r
     → Gives (atom_at s (term_at s n) n (scope bound) (tokens_from p (argument_text bound t ++ r))) (in_scope bound t) r
@@ -134,7 +134,7 @@ application_goes s bound f x k j o n p r l e =
       is = h
           ∙ atoms_more (atom_at s (term_at s n) n (scope bound)) left (operand (means (in_scope bound f)) first) (tokens_from (place + 1) (argument_text bound x ++ r)) (argument_starts s bound x j (place + 1) r e.ends)
           ∙ ap (λ y. y >>= (λ z rest. atoms_at (atom_at s (term_at s n) n (scope bound)) left (apply (operand (means (in_scope bound f)) first) z) rest)) a.is
-          ∙ ap (λ z. atoms_at (atom_at s (term_at s n) n (scope bound)) left z (tokens_from a.place r)) (apply_is (in_scope bound f) (in_scope bound x) first a.first (fits_in s bound f x o))
+          ∙ ap (λ z. atoms_at (atom_at s (term_at s n) n (scope bound)) left z (tokens_from a.place r)) (apply_is (in_scope bound f) (in_scope bound x) first a.first (fits_in s bound f x o));
     }
 
 pub application_text : (bound : List Ty) (f x : Tm) → sugar f x ≡ none → text_at bound (tm_comb f x) ≡ operand_text bound f ++ (codes " " ++ argument_text bound x)
@@ -146,17 +146,21 @@ application_reads s bound f x e k j o = record {
   starts = λ h. start;
   atom = λ h. absurd (unlike h);
   spine = λ h. go;
-  whole = plain_whole s bound (tm_comb f x) start go
+  whole = plain_whole s bound (tm_comb f x) start go;
 }
   where
     unlike : false ≡ true → ⊥
     unlike h = cc
+
     text : (r : Text) → text_at bound (tm_comb f x) ++ r ≡ operand_text bound f ++ (codes " " ++ (argument_text bound x ++ r))
     text r = ap (λ y. y ++ r) (application_text bound f x e) ∙ append_assoc (operand_text bound f) (codes " " ++ argument_text bound x) r
+
     size : length (text_at bound (tm_comb f x)) ≡ length (operand_text bound f) + 1 + length (argument_text bound x)
     size = ap length (application_text bound f x e) ∙ (let a = length-append (operand_text bound f) (codes " " ++ argument_text bound x) in omega (arith, a))
+
     start : (p : ℕ) (r : Text) → Ends r → begins_atom (head_kind (tokens_from p (text_at bound (tm_comb f x) ++ r))) ≡ true
     start p r h = ap (λ y. begins_atom (head_kind (tokens_from p y))) (text r) ∙ operand_starts s bound f k p (codes " " ++ (argument_text bound x ++ r)) (ends_sign 32 (argument_text bound x ++ r) refl refl)
+
     go : (n p : ℕ) (r : Text) → length (text_at bound (tm_comb f x)) ≤ n → Follows r
         → Goes s bound n (application_at s (term_at s n) n (scope bound) (tokens_from p (text_at bound (tm_comb f x) ++ r))) (in_scope bound (tm_comb f x)) r (length (text_at bound (tm_comb f x)))
     go n p r l h =
@@ -166,5 +170,5 @@ application_reads s bound f x e k j o = record {
           place = g.place;
           left = g.left;
           enough = omega (arith, size, g.enough);
-          is = ap (λ y. application_at s (term_at s n) n (scope bound) (tokens_from p y)) (text r) ∙ g.is
+          is = ap (λ y. application_at s (term_at s n) n (scope bound) (tokens_from p y)) (text r) ∙ g.is;
         }

@@ -134,7 +134,7 @@ plain_whole s bound t start go (suc n) p r h c =
       place = g.place;
       is = by_atom (head_kind ts) s (term_at s n) n (scope bound) ts (start p r c.follows.ends)
           ∙ ap (λ x. x >>= (λ a rest. infix_by (head_kind rest) s app a rest)) g.is
-          ∙ infix_stop (head_kind (tokens_from g.place r)) s app (operand (means (in_scope bound t)) g.first) (tokens_from g.place r) (c.closed g.place)
+          ∙ infix_stop (head_kind (tokens_from g.place r)) s app (operand (means (in_scope bound t)) g.first) (tokens_from g.place r) (c.closed g.place);
     }
 
 -- an atom as an application without arguments
@@ -146,7 +146,7 @@ atom_spine s bound x m n p r h g = record {
   place = g.place;
   left = n;
   enough = omega arith;
-  is = ap (λ y. y >>= atoms_at (atom_at s (term_at s n) n (scope bound)) n) g.is
+  is = ap (λ y. y >>= atoms_at (atom_at s (term_at s n) n (scope bound)) n) g.is;
 }
 
 -- what is shown of an atom
@@ -160,5 +160,5 @@ atom_reads s bound t h start one =
       starts = λ e. start;
       atom = λ e. one;
       spine = λ e. go;
-      whole = plain_whole s bound t start go
+      whole = plain_whole s bound t start go;
     }

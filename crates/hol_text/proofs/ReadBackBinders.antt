@@ -96,6 +96,7 @@ not_bound (t ∷ bound) c h f = at (not_bound bound c (omega arith) f) (bytes_eq
   where
     unlike : true ≡ false → ⊥
     unlike e = cc
+
     at : innermost (scope bound) c ≡ None → (b : Bool) → bytes_eq (bound_text (length bound)) c ≡ b → innermost (scope (t ∷ bound)) c ≡ None
     at g true e = absurd (unlike (sym (bound_numbered (length bound) (omega arith)) ∙ ap is_numbered ((bytes_eq-Decides (bound_text (length bound)) c).0 e) ∙ f))
     at g false e = rw e g
@@ -145,7 +146,7 @@ found (u ∷ bound) zero t e h = record {
   var = stand_in (scope bound) (bound_text (length bound)) u;
   typed = cc;
   known = rw (number_here (length bound), same_bytes (bound_text (length bound))) refl;
-  stands = λ v. refl
+  stands = λ v. refl;
 }
 found (u ∷ bound) (suc i) t e h =
     let f = found bound i t e (omega arith) in
@@ -155,9 +156,8 @@ found (u ∷ bound) (suc i) t e h =
       var = f.var;
       typed = f.typed;
       known = rw (number_there (length bound) i, bound_apart (length bound) (length bound - (i + 1)) (omega arith) (omega arith) ne) f.known;
-      stands = f.stands
+      stands = f.stands;
     }
-
 
 -- ---- binding again
 
@@ -224,6 +224,7 @@ bound_again pre bound a i t h e = at (nat_lt i (length pre)) refl
         rw (at_below i (length pre) k) (ap (λ (b : Bool). cond b (tm_index (length pre) a) (tm_free (above bound a))) (var_self (above bound a)) ∙ (λ z. tm_index (sym k z) (y z)))
     behind (suc j) f g =
         rw (past i (length pre) j g, past_by i (length pre) j g) (others (length pre) (above bound a) (length bound) (above_name bound a h) h bound j i t (omega arith))
+
     at : (b : Bool) → nat_lt i (length pre) ≡ b
         → tm_bind (length pre) (above bound a) (cond b (tm_index i t) (standing (scope (a ∷ bound)) (i - length pre) (tm_index i t))) ≡ cond (nat_lt i (length pre + 1)) (tm_index i t) (standing (scope bound) (i - (length pre + 1)) (tm_index i t))
     at true f = rw (below_more i (length pre) f) refl

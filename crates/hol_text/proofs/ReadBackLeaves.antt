@@ -20,10 +20,9 @@ use Rattle.hol_text.specs.Meaning.{Meaning, means, Arguments, given, count, cons
 use Rattle.hol_text.specs.Reading.{Front, got, stop, ◌>>=◌, expect_by, is_close_paren, is_close_brace, is_close_bracket, types_at, type_at, typed_at, Scope, innermost, plain_by, braces_at, name_by, free_of, atom_at, begins_atom, atoms_by, atoms_at, application_at, term_at}
 use Rattle.hol_text.specs.ReadsBack.{ReadsBack}
 use Rattle.hol_text.proofs.ReadBackTokens.{Ends, ends_text, ends_sign, at_blank, at_open_paren, at_close_paren, at_open_brace, at_close_brace, at_open_bracket, at_close_bracket, at_colon, at_name}
-use Rattle.hol_text.proofs.ReadBackTypes.{HasNames, Comes, lead, follow, within, Rest, as_many, commas_count, list_reads, reads_type, reads_types}
+use Rattle.hol_text.proofs.ReadBackTypes.{has_names, HasNames, Comes, lead, follow, within, Rest, as_many, commas_count, list_reads, reads_type, reads_types}
 use Rattle.hol_text.proofs.ReadBackBinders.{bound_name, scope, not_bound, standing, opened, Found, found, opened_type}
 use Rattle.hol_text.proofs.ReadBackAtoms.{text_at, in_scope, is_brace, Follows, follows_blank, Closed, closed_paren, Gives, leads, Goes, ReadsTm, plain_whole, atom_spine, atom_reads}
-use Rattle.hol_text.proofs.ReadBack.{has_names}
 
 -- ---- names
 
@@ -40,7 +39,7 @@ name_gives s bound c m h e n p r f = record {
   place = p + length c;
   is = ap (atom_at s (term_at s n) n (scope bound)) (at_name p c r h f.ends)
       ∙ name_plain (head_kind (tokens_from (p + length c) r)) s n (scope bound) c p (tokens_from (p + length c) r) (f.unbraced (p + length c))
-      ∙ ap (λ o. got (operand o p) (tokens_from (p + length c) r)) (e p)
+      ∙ ap (λ o. got (operand o p) (tokens_from (p + length c) r)) (e p);
 }
 
 name_starts : (c : Name) → is_name c ≡ true → (p : ℕ) (r : Text) → Ends r → begins_atom (head_kind (tokens_from p (c ++ r))) ≡ true
@@ -120,7 +119,7 @@ braced_gives s bound c t us ty b o n p r l =
           ∙ ap (λ ts. name_by (head_kind ts) s n (scope bound) c p ts) (at_open_brace q (args ++ (codes "}" ++ r)))
           ∙ ap (λ x. (x >>= (λ args rest. expect_by (is_close_brace (head_kind rest)) args rest)) >>= (λ args rest. got (operand (constant s c p args) p) rest)) c1.is
           ∙ ap (λ ts. expect_by (is_close_brace (head_kind ts)) (given (t ∷ ty_list (tys us))) ts >>= (λ args rest. got (operand (constant s c p args) p) rest)) (at_close_brace c1.place r)
-          ∙ ap (λ m. got (operand m p) (tokens_from (c1.place + 1) r)) (ap (λ vs. constant s c p (given (t ∷ vs))) (ty_list-tys us) ∙ constant_is s c (t ∷ us) ty p o)
+          ∙ ap (λ m. got (operand m p) (tokens_from (c1.place + 1) r)) (ap (λ vs. constant s c p (given (t ∷ vs))) (ty_list-tys us) ∙ constant_is s c (t ∷ us) ty p o);
     }
 
 braced_constant : (s : Signature) (bound : List Ty) (c : Name) (t : Ty) (us : List Ty) (ty : Ty) → ReadsBack s → IsConstOver s c (t ∷ us) ty → ReadsTm s bound (tm_const c (t ∷ us) ty)
@@ -131,8 +130,8 @@ braced_constant s bound c t us ty b o =
     let more = length-append (c ++ codes "{") args in
     let brace = length-append c (codes "{") in
     atom_reads s bound (tm_const c (t ∷ us) ty) (omega (arith, sum, more, brace))
-      (λ p r e. ap (λ x. begins_atom (head_kind (tokens_from p x))) (apart args r) ∙ name_starts c name p (codes "{" ++ (args ++ (codes "}" ++ r))) (ends_sign 123 (args ++ (codes "}" ++ r)) refl refl))
-      (λ n p r l g. leads (ap (λ x. atom_at s (term_at s n) n (scope bound) (tokens_from p x)) (apart args r)) (braced_gives s bound c t us ty b o n p r (omega (arith, sum, more, brace))))
+    (λ p r e. ap (λ x. begins_atom (head_kind (tokens_from p x))) (apart args r) ∙ name_starts c name p (codes "{" ++ (args ++ (codes "}" ++ r))) (ends_sign 123 (args ++ (codes "}" ++ r)) refl refl))
+    (λ n p r l g. leads (ap (λ x. atom_at s (term_at s n) n (scope bound) (tokens_from p x)) (apart args r)) (braced_gives s bound c t us ty b o n p r (omega (arith, sum, more, brace))))
   where
     apart : (x r : Text) → (c ++ codes "{" ++ x ++ codes "}") ++ r ≡ c ++ (codes "{" ++ (x ++ (codes "}" ++ r)))
     apart x r = simp append_assoc
@@ -154,9 +153,9 @@ free_gives s bound v b name over n p r l =
       first = p;
       place = c1.place + 1;
       is = ap (atom_at s (term_at s n) n (scope bound)) (at_open_bracket p (v.name ++ (codes ":" ++ end)) ∙ ap (λ ts. sign open_bracket p ∷ ts) (at_name (p + 1) v.name (codes ":" ++ end) name (ends_sign 58 end refl refl)
-              ∙ ap (λ ts. token a_name v.name (p + 1) ∷ ts) (at_colon q end)))
+          ∙ ap (λ ts. token a_name v.name (p + 1) ∷ ts) (at_colon q end)))
           ∙ ap (λ x. x >>= (λ t rest. expect_by (is_close_bracket (head_kind rest)) (operand (free_of v.name t) p) rest)) c1.is
-          ∙ ap (λ ts. expect_by (is_close_bracket (head_kind ts)) (operand (means (tm_free v)) p) ts) (at_close_bracket c1.place r)
+          ∙ ap (λ ts. expect_by (is_close_bracket (head_kind ts)) (operand (means (tm_free v)) p) ts) (at_close_bracket c1.place r);
     }
 
 pub free_reads : (s : Signature) (bound : List Ty) (v : FreeVar) → ReadsBack s → is_name v.name ≡ true → IsTyOver s v.ty → ReadsTm s bound (tm_free v)
@@ -164,8 +163,8 @@ free_reads s bound v b name over =
     let sum = length-append (codes "[" ++ v.name ++ codes ":" ++ ty_text v.ty) (codes "]") in
     let more = length-append (codes "[" ++ v.name ++ codes ":") (ty_text v.ty) in
     atom_reads s bound (tm_free v) (omega (arith, sum, more))
-      (λ p r e. ap (λ x. begins_atom (head_kind (tokens_from p x))) (apart v.name (ty_text v.ty) r) ∙ ap (λ ts. begins_atom (head_kind ts)) (at_open_bracket p (v.name ++ (codes ":" ++ (ty_text v.ty ++ (codes "]" ++ r))))))
-      (λ n p r l g. leads (ap (λ x. atom_at s (term_at s n) n (scope bound) (tokens_from p x)) (apart v.name (ty_text v.ty) r)) (free_gives s bound v b name over n p r (omega (arith, sum, more))))
+    (λ p r e. ap (λ x. begins_atom (head_kind (tokens_from p x))) (apart v.name (ty_text v.ty) r) ∙ ap (λ ts. begins_atom (head_kind ts)) (at_open_bracket p (v.name ++ (codes ":" ++ (ty_text v.ty ++ (codes "]" ++ r))))))
+    (λ n p r l g. leads (ap (λ x. atom_at s (term_at s n) n (scope bound) (tokens_from p x)) (apart v.name (ty_text v.ty) r)) (free_gives s bound v b name over n p r (omega (arith, sum, more))))
   where
     apart : (x y r : Text) → (codes "[" ++ x ++ codes ":" ++ y ++ codes "]") ++ r ≡ codes "[" ++ (x ++ (codes ":" ++ (y ++ (codes "]" ++ r))))
     apart x y r = simp append_assoc

@@ -17,12 +17,11 @@ use Rattle.hol_text.specs.Meaning.{Meaning, means, given, constant, one_type, ty
 use Rattle.hol_text.specs.Reading.{Front, got, stop, ◌>>=◌, expect_by, is_dot, type_at, typed_at, Scope, stand_in, atom_at, begins_atom, application_at, infix_by, is_dotted, bound_by, bound_at, Binder, body_at, binder_at, term_by, term_at}
 use Rattle.hol_text.specs.ReadsBack.{ReadsBack, signed}
 use Rattle.hol_text.proofs.ReadBackTokens.{Ends, ends_sign, ends_dot, at_colon, at_dot, at_equals, at_and, at_or, at_implies, at_not, at_all, at_ex, at_lambda, at_name}
-use Rattle.hol_text.proofs.ReadBackTypes.{Comes, Rest, closes, reads_type}
+use Rattle.hol_text.proofs.ReadBackTypes.{has_names, Comes, Rest, closes, reads_type}
 use Rattle.hol_text.proofs.ReadBackBinders.{bound_name, bound_undotted, scope, opened, opened_type, above, close}
 use Rattle.hol_text.proofs.ReadBackAtoms.{text_at, in_scope, is_brace, Follows, closes_term, Closed, Gives, leads, no_atom, ReadsTm, by_atom, infix_stop}
 use Rattle.hol_text.proofs.ReadBackLeaves.{constant_is}
 use Rattle.hol_text.proofs.ReadBackApplications.{operand_text, operand_starts, operand_gives, apply_is, fits_in}
-use Rattle.hol_text.proofs.ReadBack.{has_names}
 
 -- ---- signs between two operands
 
@@ -76,7 +75,7 @@ infix_whole s bound a x m text k joined ra rx sg by value (suc n) p r l c =
           ∙ ap (λ us. infix_by (head_kind us) s app (operand (means (in_scope bound a)) g.first) us) z.is
           ∙ by app (operand (means (in_scope bound a)) g.first) (sign k z.first ∷ tokens_from z.place rest)
           ∙ ap (λ y. y >>= (λ right after. got (joined z.first (operand (means (in_scope bound a)) g.first) right) after)) h.is
-          ∙ ap (λ o. got o (tokens_from h.place r)) (value z.first g.first h.first)
+          ∙ ap (λ o. got o (tokens_from h.place r)) (value z.first g.first h.first);
     }
 
 -- ---- the constants of signs
@@ -206,7 +205,7 @@ binder_gives s bound u d b h over o k n p r lt ld c =
           ∙ ap (λ y. y >>= (λ t after. expect_by (is_dot (head_kind after)) t after >>= read_body)) c1.is
           ∙ ap (λ ts. expect_by (is_dot (head_kind ts)) (means u) ts >>= read_body) (at_dot c1.place body)
           ∙ ap (λ y. y >>= (λ z rest. got (means u, abstraction (means u) (above bound u) z.meaning) rest)) g.is
-          ∙ ap (λ m. got (means u, means m) (tokens_from g.place r)) (abstraction_is s bound u d h o)
+          ∙ ap (λ m. got (means u, means m) (tokens_from g.place r)) (abstraction_is s bound u d h o);
     }
 
 -- ---- terms with sugar, and abstractions
@@ -218,7 +217,7 @@ sugared s bound t e h one = record {
   starts = λ g. absurd (unlike (sym e ∙ g));
   atom = λ g. absurd (unlike (sym h ∙ g));
   spine = λ g. absurd (unlike (sym e ∙ g));
-  whole = one
+  whole = one;
 }
   where
     unlike : false ≡ true → ⊥
@@ -235,7 +234,7 @@ infix_reads s bound a x t text k joined e f h ra rx sg by value = sugared s boun
     let sum = length-append (operand_text bound a ++ text) (operand_text bound x) in
     let more = length-append (operand_text bound a) text in
     leads (ap (λ y. term_at s n (scope bound) (tokens_from p y)) (ap (λ y. y ++ r) e ∙ apart r))
-      (infix_whole s bound a x (in_scope bound t) text k joined ra rx sg by value n p r (omega (arith, ap length e, sum, more)) c))
+    (infix_whole s bound a x (in_scope bound t) text k joined ra rx sg by value n p r (omega (arith, ap length e, sum, more)) c))
   where
     apart : (r : Text) → ((operand_text bound a ++ text) ++ operand_text bound x) ++ r ≡ operand_text bound a ++ (text ++ (operand_text bound x ++ r))
     apart r = append_assoc (operand_text bound a ++ text) (operand_text bound x) r ∙ append_assoc (operand_text bound a) text (operand_text bound x ++ r)
@@ -271,7 +270,7 @@ not_whole s bound x ts ty b o rx (suc n) p r l c =
       place = g.place;
       is = ap (λ us. term_by (head_kind us) s (term_at s n) n (scope bound) us) (at_not p (operand_text bound x ++ r))
           ∙ ap (λ y. y >>= (λ z rest. got (negation s p z) rest)) g.is
-          ∙ ap (λ z. got z (tokens_from g.place r)) (negation_is s bound x ts ty b o p g.first)
+          ∙ ap (λ z. got z (tokens_from g.place r)) (negation_is s bound x ts ty b o p g.first);
     }
 
 not_sugar : (x : Tm) (ts : List Ty) (ty : Ty) → sugar (tm_const (codes "not") ts ty) x ≡ before
@@ -327,7 +326,7 @@ abs_whole s bound u d b h o k (suc n) p r l c =
       place = z.place;
       is = ap (λ y. term_at s (suc n) (scope bound) (tokens_from p (codes "\\" ++ y))) (scope_apart bound u d r)
           ∙ ap (λ us. term_by (head_kind us) s (term_at s n) n (scope bound) us) (at_lambda p (decimal (length bound) ++ rest))
-          ∙ ap (λ y. y >>= (λ x after. got (operand x.1 p) after)) z.is
+          ∙ ap (λ y. y >>= (λ x after. got (operand x.1 p) after)) z.is;
     }
 
 pub abs_reads : (s : Signature) (bound : List Ty) (u : Ty) (d : Tm) → ReadsBack s → length bound < 2 ^ 64 → IsOver s bound (tm_abs u d) → ReadsTm s (u ∷ bound) d → ReadsTm s bound (tm_abs u d)
@@ -363,7 +362,7 @@ quantified_whole s bound m text w u d ts ty q b h o k (suc n) p r l c =
           ∙ ap (λ us. term_by (head_kind us) s (term_at s n) n (scope bound) us) (q.at p rest)
           ∙ q.by s (term_at s n) n (scope bound) (sign w p ∷ tokens_from (p + 1) rest)
           ∙ ap (λ y. y >>= (λ x after. got (quantified s m p x.0 x.1) after)) z.is
-          ∙ ap (λ y. got y (tokens_from z.place r)) (quantified_is s bound m u d ts ty b q.usual o p)
+          ∙ ap (λ y. got y (tokens_from z.place r)) (quantified_is s bound m u d ts ty b q.usual o p);
     }
 
 pub all_reads : (s : Signature) (bound : List Ty) (u : Ty) (d : Tm) (ts : List Ty) (ty : Ty) → ReadsBack s → length bound < 2 ^ 64 → IsOver s bound (tm_comb (tm_const (codes "all") ts ty) (tm_abs u d)) → ReadsTm s (u ∷ bound) d → ReadsTm s bound (tm_comb (tm_const (codes "all") ts ty) (tm_abs u d))

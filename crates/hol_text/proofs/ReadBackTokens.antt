@@ -255,6 +255,7 @@ at_name p n r h e =
     word_from p n r u s k e =
         ap (tokens_in between p) (chars-append n r u) ∙ name_from (chars n) (chars r) p s ∙ (λ i. tokens_in (in_name p (encodes-chars n u i)) (p + length (encodes-chars n u i)) (chars r))
         ∙ end_name p (p + length n) n r e ∙ ap (λ b. token (word_kind b) n p ∷ tokens_from (p + length n) r) k
+
     zero_from : (p : ℕ) (n : Name) (r : Text) → bytes_eq n (codes "0") ≡ true → tokens_from p (n ++ r) ≡ token a_name n p ∷ tokens_from (p + length n) r
     zero_from p n r z = let x : n ≡ codes "0" = (bytes_eq-Decides n (codes "0")).0 z in rw x (at_zero p r)
 

@@ -11,11 +11,15 @@ use Rattle.hol_terms.specs.Text.{Text, parenthesized, with_commas, is_arrow, is_
 use Rattle.hol_text.specs.Tokens.{Kind, a_name, a_variable, a_keyword, open_paren, close_paren, open_brace, close_brace, open_bracket, close_bracket, comma, colon, semicolon, dot, bar, equals, arrow, lambda_sign, all_sign, ex_sign, not_sign, and_sign, or_sign, implies_sign, the_end, no_token, Token, token, sign, head_kind, head_text, head_place, tail, tokens_from}
 use Rattle.hol_text.specs.Meaning.{Meaning, means, Arguments, given, with_one, is_count, applied_by, applied, function}
 use Rattle.hol_text.specs.Reading.{Front, got, stop, ◌>>=◌, expect_by, is_close_paren, is_name_token, postfix_by, postfix, more_types, types_at, tuple, tuple_by, group_by, dtype_by, dtype_at, range_by, type_at}
+use Rattle.hol_text.specs.ReadsBack.{ReadsBack}
 use Rattle.hol_text.proofs.ReadBackTokens.{Ends, ends_text, ends_sign, ends_dot, at_blank, at_open_paren, at_close_paren, at_comma, at_arrow, at_name, at_variable}
 
 -- the names that a signature gives are names
 pub record HasNames (s : Signature) : Type 0 where
   pub types : (c : Name) (k : ℕ) → arity_of s c ≡ Some k → is_name c ≡ true
+
+pub has_names : {s : Signature} → ReadsBack s → HasNames s
+has_names b = record { types = b.types_named }
 
 -- ---- readings, step by step
 
@@ -87,7 +91,7 @@ whole_from s t part (suc n) p r h c =
     (λ q. record {
       place = q;
       is = ap (λ x. x >>= (λ dom rest. range_by (head_kind rest) s (type_at s n) dom rest)) (postfix_stops s (means t) (tokens_from q r) (c.closed q))
-          ∙ range_stops (head_kind (tokens_from q r)) s (type_at s n) (means t) (tokens_from q r) (c.closed q)
+          ∙ range_stops (head_kind (tokens_from q r)) s (type_at s n) (means t) (tokens_from q r) (c.closed q);
     })
 
 -- ---- the cases
@@ -131,6 +135,7 @@ domain s t b n p r h e = at (is_function t) refl h
   where
     inside : (x : Text) → (codes "(" ++ x ++ codes ")") ++ r ≡ codes "(" ++ (x ++ (codes ")" ++ r))
     inside x = simp append_assoc
+
     at : (f : Bool) → is_function t ≡ f → length (parenthesized f (ty_text t)) ≤ n → Comes (dtype_at s (type_at s n) n (tokens_from p (parenthesized f (ty_text t) ++ r))) (postfix s (means t)) r
     at false g h = b.part g n p r h e
     at true g h = lead (ap (λ x. dtype_at s (type_at s n) n (tokens_from p x)) (inside (ty_text t))) (grouped s t b n p r (omega (arith, length-append (codes "(" ++ ty_text t) (codes ")"))))
@@ -144,7 +149,7 @@ argument_part s c x h a b n p r l e =
     (follow (domain s x b n p (codes " " ++ (c ++ r)) (omega (arith, length-append (parenthesized (is_function x) (ty_text x) ++ codes " ") c, length-append (parenthesized (is_function x) (ty_text x)) (codes " "))) (ends_sign 32 (c ++ r) refl refl))
     (λ q. record {
       place = (q + 1) + length c;
-      is = ap (postfix s (means x)) (at_blank q (c ++ r) ∙ at_name (q + 1) c r h e) ∙ ap (λ m. postfix s m (tokens_from ((q + 1) + length c) r)) (applied_is s c (q + 1) (more_tys x no_tys) a)
+      is = ap (postfix s (means x)) (at_blank q (c ++ r) ∙ at_name (q + 1) c r h e) ∙ ap (λ m. postfix s m (tokens_from ((q + 1) + length c) r)) (applied_is s c (q + 1) (more_tys x no_tys) a);
     }))
   where
     apart : (y : Text) → ((y ++ codes " ") ++ c) ++ r ≡ y ++ (codes " " ++ (c ++ r))
@@ -159,10 +164,10 @@ arrow_whole s a b f x y zero p r l c = absurd (omega arith)
 arrow_whole s a b f x y (suc n) p r l c =
     let sum = length-append (parenthesized (is_function a) (ty_text a)) (codes " -> " ++ ty_text b) in
     follow (within (λ z. z >>= (λ dom rest. range_by (head_kind rest) s (type_at s n) dom rest))
-      (domain s a x n p (codes " -> " ++ (ty_text b ++ r)) (omega (arith, sum)) (ends_sign 32 (codes "-> " ++ (ty_text b ++ r)) refl refl)))
+    (domain s a x n p (codes " -> " ++ (ty_text b ++ r)) (omega (arith, sum)) (ends_sign 32 (codes "-> " ++ (ty_text b ++ r)) refl refl)))
     (λ q. lead (ap (λ ts. postfix s (means a) ts >>= (λ dom rest. range_by (head_kind rest) s (type_at s n) dom rest)) (at_arrow q (ty_text b ++ r)))
-      (follow (within (λ z. z >>= (λ ran rest. got (function s (q + 1) (means a) ran) rest)) (y.whole n ((((q + 1) + 1) + 1) + 1) r (omega (arith, sum)) c))
-      (λ k. record { place = k; is = ap (λ m. got m (tokens_from k r)) (applied_is s fun_name (q + 1) (more_tys a (more_tys b no_tys)) f) })))
+    (follow (within (λ z. z >>= (λ ran rest. got (function s (q + 1) (means a) ran) rest)) (y.whole n ((((q + 1) + 1) + 1) + 1) r (omega (arith, sum)) c))
+    (λ k. record { place = k; is = ap (λ m. got m (tokens_from k r)) (applied_is s fun_name (q + 1) (more_tys a (more_tys b no_tys)) f) })))
 
 -- the types of a list, each of which reads
 abbrev pub AllRead : Signature → Tys → Type 0
@@ -187,7 +192,7 @@ list_reads s t ts b bs done n zero p r l m c z = absurd (omega arith)
 list_reads s t no_tys b bs done n (suc k) p r l m c z =
     lead (ap (λ y. types_at (type_at s n) (suc k) (given done) (tokens_from p y)) (only (ty_text t)))
     (follow (within (λ x. x >>= (λ u rest. more_types (head_kind rest) (types_at (type_at s n) k) (with_one (given done) u) rest))
-      (b.whole n p r (omega (arith, length-append (ty_text t) [])) c))
+    (b.whole n p r (omega (arith, length-append (ty_text t) [])) c))
     (λ q. record { place = q; is = more_stop (head_kind (tokens_from q r)) (types_at (type_at s n) k) (given (done ++ t ∷ [])) (tokens_from q r) (z q) }))
   where
     only : (y : Text) → (y ++ []) ++ r ≡ y ++ r
@@ -198,16 +203,16 @@ list_reads s t (more_tys u ts) b bs done n (suc k) p r l m c z =
     let e : with_commas (ty_text t ∷ ty_text u ∷ tys_texts ts) ≡ ty_text t ++ (codes "," ++ rest) = refl in
     lead (ap (λ y. types_at (type_at s n) (suc k) (given done) (tokens_from p y)) (append_assoc (ty_text t) (codes "," ++ rest) r))
     (follow (within (λ x. x >>= (λ u rest. more_types (head_kind rest) (types_at (type_at s n) k) (with_one (given done) u) rest))
-      (b.whole n p (codes "," ++ (rest ++ r)) (omega (arith, sum)) (rest_comma (rest ++ r))))
+    (b.whole n p (codes "," ++ (rest ++ r)) (omega (arith, sum)) (rest_comma (rest ++ r))))
     (λ q. lead (ap (λ ts. more_types (head_kind ts) (types_at (type_at s n) k) (given (done ++ t ∷ [])) ts) (at_comma q (rest ++ r)))
-      (follow (list_reads s u ts bs.0 bs.1 (done ++ t ∷ []) n k (q + 1) r (omega (arith, sum)) (omega arith) c z)
-      (λ j. record { place = j; is = ap (λ us. got (given us) (tokens_from j r)) (append_assoc done (t ∷ []) (u ∷ ty_list ts)) }))))
+    (follow (list_reads s u ts bs.0 bs.1 (done ++ t ∷ []) n k (q + 1) r (omega (arith, sum)) (omega arith) c z)
+    (λ j. record { place = j; is = ap (λ us. got (given us) (tokens_from j r)) (append_assoc done (t ∷ []) (u ∷ ty_list ts)) }))))
 
 -- a name behind several arguments in parentheses
 tuple_part : (s : Signature) (c : Name) (t u : Ty) (us : Tys) → is_name c ≡ true → arity_of s c ≡ Some (tys_count (more_tys t (more_tys u us))) → Reads s t → Reads s u → AllRead s us
     → (n p : ℕ) (r : Text) → length (ty_text t) + length (with_commas (ty_text u ∷ tys_texts us)) + 2 < n → tys_count us < n → Ends r
     → Comes (dtype_at s (type_at s n) n (tokens_from p (codes "(" ++ (ty_text t ++ (codes "," ++ (with_commas (ty_text u ∷ tys_texts us) ++ (codes ")" ++ (codes " " ++ (c ++ r)))))))))
-        (postfix s (means (ty_app c (more_tys t (more_tys u us))))) r
+    (postfix s (means (ty_app c (more_tys t (more_tys u us))))) r
 unfolding dtype_at
 tuple_part s c t u us h a x y z n p r l m e =
     let rest = with_commas (ty_text u ∷ tys_texts us) in
@@ -216,39 +221,41 @@ tuple_part s c t u us h a x y z n p r l m e =
     lead (ap (dtype_at s read n) (at_open_paren p (ty_text t ++ (codes "," ++ (rest ++ end)))))
     (follow (within (λ x. x >>= (λ u rest. group_by (head_kind rest) s read n u rest)) (x.whole n (p + 1) (codes "," ++ (rest ++ end)) (omega arith) (rest_comma (rest ++ end))))
     (λ q. lead (ap (λ ts. group_by (head_kind ts) s read n (means t) ts) (at_comma q (rest ++ end)))
-      (follow (within (λ x. (x >>= (λ args rest. expect_by (is_close_paren (head_kind rest)) args rest)) >>= tuple s)
-        (list_reads s u us y z (t ∷ []) n n (q + 1) end (omega arith) m (rest_close_paren (codes " " ++ (c ++ r))) (λ k. rw at_close_paren refl)))
-      (λ k. record {
-        place = ((k + 1) + 1) + length c;
-        is = ap (λ ts. expect_by (is_close_paren (head_kind ts)) (given (t ∷ u ∷ ty_list us)) ts >>= tuple s) (at_close_paren k (codes " " ++ (c ++ r)))
-            ∙ ap (λ ts. tuple s (given (t ∷ u ∷ ty_list us)) ts) (at_blank (k + 1) (c ++ r) ∙ at_name ((k + 1) + 1) c r h e)
-            ∙ ap (λ m. postfix s m (tokens_from (((k + 1) + 1) + length c) r)) (applied_is s c ((k + 1) + 1) (more_tys t (more_tys u us)) a)
-      }))))
+    (follow (within (λ x. (x >>= (λ args rest. expect_by (is_close_paren (head_kind rest)) args rest)) >>= tuple s)
+    (list_reads s u us y z (t ∷ []) n n (q + 1) end (omega arith) m (rest_close_paren (codes " " ++ (c ++ r))) (λ k. rw at_close_paren refl)))
+    (λ k. record {
+      place = ((k + 1) + 1) + length c;
+      is = ap (λ ts. expect_by (is_close_paren (head_kind ts)) (given (t ∷ u ∷ ty_list us)) ts >>= tuple s) (at_close_paren k (codes " " ++ (c ++ r)))
+          ∙ ap (λ ts. tuple s (given (t ∷ u ∷ ty_list us)) ts) (at_blank (k + 1) (c ++ r) ∙ at_name ((k + 1) + 1) c r h e)
+          ∙ ap (λ m. postfix s m (tokens_from (((k + 1) + 1) + length c) r)) (applied_is s c ((k + 1) + 1) (more_tys t (more_tys u us)) a);
+    }))))
 
 -- ---- every type
 
 variable_reads : (s : Signature) (v : Name) → is_segment v ≡ true → Reads s (ty_var v)
 variable_reads s v h = record {
   part = λ f n p r l e. variable_part s v h n p r e;
-  whole = whole_from s (ty_var v) (λ n p r l e. variable_part s v h n p r e)
+  whole = whole_from s (ty_var v) (λ n p r l e. variable_part s v h n p r e);
 }
 
 arrow_reads : (s : Signature) (c : Name) (a b : Ty) → bytes_eq c fun_name ≡ true → arity_of s c ≡ Some 2 → Reads s a → Reads s b → Reads s (ty_app c (more_tys a (more_tys b no_tys)))
 arrow_reads s c a b e f x y = record {
   part = λ g n p r l k. absurd (unlike (sym e ∙ g));
   whole = λ n p r l k.
-    let text = text_is in
-    lead (ap (λ z. type_at s n (tokens_from p (z ++ r))) text)
-    (lead (ap (λ z. type_at s n (tokens_from p z)) (append_assoc (parenthesized (is_function a) (ty_text a)) (codes " -> " ++ ty_text b) r))
-    (let z : Comes (type_at s n (tokens_from p (parenthesized (is_function a) (ty_text a) ++ (codes " -> " ++ (ty_text b ++ r))))) (got (means (fun_ty a b))) r
-         = arrow_whole s a b (ap (arity_of s) (sym name) ∙ f) x y n p r (omega (arith, ap length text)) k in
-     record { place = z.place; is = z.is ∙ ap (λ m. got (means (ty_app m (more_tys a (more_tys b no_tys)))) (tokens_from z.place r)) (sym name) }))
+      let text = text_is in
+      lead (ap (λ z. type_at s n (tokens_from p (z ++ r))) text)
+      (lead (ap (λ z. type_at s n (tokens_from p z)) (append_assoc (parenthesized (is_function a) (ty_text a)) (codes " -> " ++ ty_text b) r))
+      (let z : Comes (type_at s n (tokens_from p (parenthesized (is_function a) (ty_text a) ++ (codes " -> " ++ (ty_text b ++ r))))) (got (means (fun_ty a b))) r
+      = arrow_whole s a b (ap (arity_of s) (sym name) ∙ f) x y n p r (omega (arith, ap length text)) k in
+      record { place = z.place; is = z.is ∙ ap (λ m. got (means (ty_app m (more_tys a (more_tys b no_tys)))) (tokens_from z.place r)) (sym name) }));
 }
   where
     unlike : true ≡ false → ⊥
     unlike g = cc
+
     name : c ≡ fun_name
     name = (bytes_eq-Decides c fun_name).0 e
+
     text_is : ty_text (ty_app c (more_tys a (more_tys b no_tys))) ≡ parenthesized (is_function a) (ty_text a) ++ (codes " -> " ++ ty_text b)
     text_is = rw e (append_assoc (parenthesized (is_function a) (ty_text a)) (codes " -> ") (ty_text b))
 
@@ -262,6 +269,7 @@ tuple_reads s c t u us e h a x y z = record { part = λ f n p r l k. part n p r 
   where
     text_is : (r : Text) → ty_text (ty_app c (more_tys t (more_tys u us))) ++ r ≡ codes "(" ++ (ty_text t ++ (codes "," ++ (with_commas (ty_text u ∷ tys_texts us) ++ (codes ")" ++ (codes " " ++ (c ++ r))))))
     text_is r = rw e (simp append_assoc)
+
     part : (n p : ℕ) (r : Text) → length (ty_text (ty_app c (more_tys t (more_tys u us)))) ≤ n → Ends r
         → Comes (dtype_at s (type_at s n) n (tokens_from p (ty_text (ty_app c (more_tys t (more_tys u us))) ++ r))) (postfix s (means (ty_app c (more_tys t (more_tys u us))))) r
     part n p r l k =
@@ -279,7 +287,7 @@ app_reads : (s : Signature) (c : Name) (ts : Tys) → is_name c ≡ true → ari
 app_reads s c no_tys h a b = record { part = λ f n p r l e. name_part s c h a n p r e; whole = whole_from s (ty_app c no_tys) (λ n p r l e. name_part s c h a n p r e) }
 app_reads s c (more_tys x no_tys) h a b = record {
   part = λ f n p r l e. argument_part s c x h a b.0 n p r l e;
-  whole = whole_from s (ty_app c (more_tys x no_tys)) (argument_part s c x h a b.0)
+  whole = whole_from s (ty_app c (more_tys x no_tys)) (argument_part s c x h a b.0);
 }
 app_reads s c (more_tys x (more_tys y no_tys)) h a b = at (bytes_eq c fun_name) refl
   where
