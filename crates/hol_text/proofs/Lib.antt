@@ -1,3 +1,4 @@
 pub mod Characters
 pub mod Examples
+pub mod Fits
 pub mod Lexing

@@ -1,5 +1,9 @@
+pub mod Fitting
 pub mod LexerViews
 pub mod Meaning
+pub mod MeaningViews
 pub mod Reading
+pub mod Reads
+pub mod ScopeViews
 pub mod TokenViews
 pub mod Tokens

@@ -2,4 +2,7 @@
 #![tactic(auto)]
 
 pub mod lexer;
+pub mod meaning;
+pub mod scope;
 pub mod tokens;
+pub mod types;
