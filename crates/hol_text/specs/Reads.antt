@@ -1,5 +1,6 @@
 -- What a reader returned, beside what is read.
-use Rattle.std.specs.Prelude.{◌≡◌, List, Result, Ok, Err, Bor}
+use Rattle.std.specs.Prelude.{◌≡◌, List, Result, Ok, Err}
+use Rattle.std.specs.Borrow.{Bor}
 use Rattle.hol_text.specs.Reading.{Front, got, stop}
 use Rattle.hol_text.specs.TokenViews.{tokens_of}
 use Rattle.hol_text.specs.declared.tokens.Token.{Token}
