@@ -1,5 +1,7 @@
 pub mod Characters
+pub mod ClosedTerms
 pub mod Examples
 pub mod Fits
 pub mod Lexing
+pub mod TermSteps
 pub mod TypeSteps

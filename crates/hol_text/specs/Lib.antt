@@ -1,3 +1,4 @@
+pub mod BoundViews
 pub mod Fitting
 pub mod LexerViews
 pub mod Meaning

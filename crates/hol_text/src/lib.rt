@@ -4,5 +4,6 @@
 pub mod lexer;
 pub mod meaning;
 pub mod scope;
+pub mod terms;
 pub mod tokens;
 pub mod types;
