@@ -5,3 +5,4 @@ pub mod Fits
 pub mod Lexing
 pub mod TermSteps
 pub mod TypeSteps
+pub mod WholeTexts

@@ -1,3 +1,4 @@
+pub mod Answers
 pub mod BoundViews
 pub mod Fitting
 pub mod LexerViews

@@ -1,9 +1,10 @@
 //! Types and terms as text: printed in canonical form, and read.
 #![tactic(auto)]
 
-pub mod lexer;
-pub mod meaning;
-pub mod scope;
-pub mod terms;
-pub mod tokens;
-pub mod types;
+mod lexer;
+mod meaning;
+pub mod read;
+mod scope;
+mod terms;
+mod tokens;
+mod types;
