@@ -1,6 +1,6 @@
 -- Reading types and terms, from left to right. One reading gives all three refusals: a text that is no type or term by the
--- grammar, and else the first fault. A number bounds how deep a text nests and how long its lists are: the number of its tokens
--- is enough, since each level and each member takes one.
+-- grammar, and else the first fault. A number bounds how deep a text nests and how long its lists are: one more than
+-- its bytes is enough, since each level and each member takes a byte, and the end one more.
 use Rattle.std.specs.Prelude.{ℕ, zero, suc, ◌+◌, Bool, true, false, ◌==◌, List, [], ◌∷◌, ◌++◌, length, if◌then◌else◌, Option, Some, None, bytes_eq, codes}
 use Rattle.std.specs.List.{list_any}
 use Rattle.hol_terms.specs.Name.{Name}

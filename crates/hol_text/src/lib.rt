@@ -2,8 +2,13 @@
 #![tactic(auto)]
 
 pub mod laws;
-pub mod lexer;
+mod lexer;
+mod meaning;
 pub mod print;
+pub mod read;
+mod scope;
+mod terms;
 #[cfg(test)]
 mod tests;
-pub mod tokens;
+mod tokens;
+mod types;
