@@ -155,12 +155,7 @@ fn push_word(
 }
 
 /// Goes on with a character where no token has begun.
-fn begin(
-    alloc: Global,
-    tokens: &mut Vec<Token>,
-    place: usize,
-    c: char,
-) -> Result<State, AllocError>
+fn begin(alloc: Global, tokens: &mut Vec<Token>, place: usize, c: char) -> Result<State, AllocError>
     ensures tokens { OnOk result (tokens_of tokens.new.items ≡ tokens_of tokens.old.items ++ (begin place c).0) }
     ensures state { IfOk result (λ s. state_of s ≡ (begin place c).1) }
 {

@@ -6,5 +6,7 @@ mod meaning;
 pub mod read;
 mod scope;
 mod terms;
+#[cfg(test)]
+mod tests;
 mod tokens;
 mod types;

@@ -20,7 +20,7 @@ types_at-loop-preserved t c =
     let left : 0 < c.args.fuel - c.loop.counter = omega arith in
     let less : c.args.fuel - (c.loop.counter + 1) ≡ c.args.fuel - c.loop.counter - 1 = omega arith in
     let next = types-go_on _ _ _ _ _ _ _ _ left c.in_ok-ty.ensures c.in_ok-args.ensures c.in-Comma.ensures c.loop.invariant.reads in
-    record { reads = rw (c.tail-rest.ensures, less) next; few = rw c.in_ok-args.ensures (omega (arith, count-with_one (arguments_of c.loop.args) (meaning_of c.in_ok-ty.ty), c.loop.invariant.few)); }
+    record { reads = rw (c.tail-rest.ensures, less) next; few = rw c.in_ok-args.ensures (omega (arith, count-with_one (arguments_of c.loop.args) (meaning_of c.in_ok-ty.ty), c.loop.invariant.few)) }
 
 pub types_at-returns : goal.types_at-returns
 types_at-returns t c =
