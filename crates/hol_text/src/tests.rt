@@ -1,3 +1,4 @@
-//! What no clause says: that calls succeed where there is memory, and texts of some types and terms.
+//! What no clause says: that calls succeed where there is memory, and texts of types and terms.
 
 mod printing;
+mod reading;
