@@ -13,7 +13,6 @@ pub mod Abstractions
 pub mod Defined
 pub mod NoNewline
 pub mod AroundLemmas
-pub mod PrintLemmas
 pub mod StartLemmas
 pub mod Checking
 pub mod Running

@@ -5,5 +5,4 @@ pub mod Outcome
 pub mod Reading
 pub mod Reads
 pub mod Around
-pub mod Printing
 pub mod Headline

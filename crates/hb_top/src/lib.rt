@@ -5,7 +5,6 @@ mod fronts;
 mod input;
 pub mod laws;
 mod output;
-mod print;
 mod read;
 mod start;
 #[cfg(test)]

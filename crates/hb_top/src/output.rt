@@ -13,11 +13,11 @@ ghost use Rattle.hb_top.specs.Layout.{unlines};
 ghost use Rattle.hb_top.specs.Headline.{IsCheck};
 
 use crate::input::LIMIT;
-use crate::print::{definition_line, theorem_line};
 use crate::read::read_define;
 use crate::start::start;
 use hol_kernel::Kernel;
 use hol_terms::terms::Term;
+use hol_text::print::{definition_line, theorem_line};
 use std::alloc::{AllocError, Global};
 
 /// An output, and whether it ends in a refusal.

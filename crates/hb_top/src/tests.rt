@@ -3,10 +3,12 @@
 ghost use Rattle.std.specs.Prelude.{ℕ, ◌<◌, IsSome};
 ghost use Rattle.hol_kernel.specs.Run.{axiom_at};
 
-use crate::print::theorem_line;
+mod printing;
+
 use crate::start::start;
 use crate::{Status, hbnf};
 use hb_io::{MemSink, MemSource, Source};
+use hol_text::print::theorem_line;
 use std::alloc::{AllocError, Global};
 use std::process::Abort;
 use std::test::Fail;

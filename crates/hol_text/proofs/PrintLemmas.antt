@@ -10,7 +10,7 @@ use Rattle.hol_terms.specs.Typing.{fun_name}
 use Rattle.hol_terms.specs.Sequent.{argument}
 use Rattle.hol_terms.specs.Text.{Text, is_arrow, ty_text, tys_texts, with_commas, with_arguments, parenthesized, between, before, binding, none, sugar, is_plain, is_atom, printed}
 use Rattle.hol_terms.proofs.Lists.{ty_size-at}
-use Rattle.hb_top.specs.Printing.{operator}
+use Rattle.hol_text.specs.Printing.{operator}
 
 -- a list of type arguments is an arrow's
 and_false : (b : Bool) → false ≡ (b && false)

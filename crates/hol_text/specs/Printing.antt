@@ -2,8 +2,8 @@
 use Rattle.std.specs.Prelude.{◌≡◌, Option, Some, None}
 use Rattle.hol_terms.specs.Tm.{Tm, tm_comb, tm_abs}
 use Rattle.hol_terms.specs.Text.{Text, Sugar, between, before, binding, none, sugar}
-use Rattle.hb_top.specs.declared.print.Form.{Form}
-use Rattle.hb_top.specs.declared.print.Form.TheVariants.{Infix, Negation, Binder, Plain}
+use Rattle.hol_text.specs.declared.print.Form.{Form}
+use Rattle.hol_text.specs.declared.print.Form.TheVariants.{Infix, Negation, Binder, Plain}
 
 -- the function of an application
 abbrev pub operator : Tm → Tm

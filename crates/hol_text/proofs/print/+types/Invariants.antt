@@ -1,8 +1,8 @@
 use Rattle.std.proofs.Common.{◌≡◌, ◌++◌, ◌+◌, ◌*◌, string_bytes, drop}
 use Rattle.hol_terms.specs.Ty.{ty_size, tys, tys_size}
 use Rattle.hol_terms.specs.Text.{tys_texts}
-use Rattle.hb_top.proofs.PrintLemmas.{after_commas}
-use Rattle.hb_top.proofs.print.+print_type.Given as goal
+use Rattle.hol_text.proofs.PrintLemmas.{after_commas}
+use Rattle.hol_text.proofs.print.+types.Given as goal
 
 abbrev pub decreases-push_type : goal.decreases-push_type
 decreases-push_type l = 3 * ty_size l.t.now

@@ -5,9 +5,9 @@ ghost use Rattle.std.specs.Option.{option_copied};
 ghost use Rattle.hol_terms.specs.Ty.{ty_app, tys};
 ghost use Rattle.hol_terms.specs.Tm.{tm_comb, tm_abs};
 ghost use Rattle.hol_terms.specs.Definition.{const_def};
-ghost use Rattle.hol_terms.specs.Text.{is_arrow, is_function, parenthesized, with_commas, with_arguments, ty_text, tys_texts};
+ghost use Rattle.hol_terms.specs.Text.{is_arrow, is_function, parenthesized, with_commas, with_arguments, ty_text, tys_texts, tm_text};
 ghost use Rattle.hol_terms.specs.Text.{bound_text, sign_between, sign_binding, is_plain, is_atom, printed, definition_line, theorem_line};
-ghost use Rattle.hb_top.specs.Printing.{infix_sugar, binder_sugar, IsForm};
+ghost use Rattle.hol_text.specs.Printing.{infix_sugar, binder_sugar, IsForm};
 
 use hol_terms::terms::{Term, TermNode};
 use hol_terms::types::{HolType, TypeNode};
@@ -32,8 +32,29 @@ fn is_function(t: &HolType) -> bool
     }
 }
 
+/// The canonical text of the type: a function type stands in parentheses as a domain and as the only argument of a name, as
+/// `('a -> bool) list`. The error is want of memory.
+pub fn print_type(alloc: Global, t: &HolType) -> Result<String, AllocError>
+    ensures { IfOk result (λ text. string_bytes text ≡ ty_text t.now) }
+{
+    let mut text = String::new(alloc);
+    push_type(&mut text, t)?;
+    Ok(text)
+}
+
+/// The canonical text of a term that no binder encloses: bound variables are `x` and the number of the binders around their own,
+/// free variables `[v:t]`, and the connectives and quantifiers are written with their signs. The error is want of memory, which
+/// is also answered where binders nest deeper than a machine word counts.
+pub fn print_term(alloc: Global, t: &Term) -> Result<String, AllocError>
+    ensures { IfOk result (λ text. string_bytes text ≡ tm_text t.now) }
+{
+    let mut text = String::new(alloc);
+    push_term(&mut text, t, 0)?;
+    Ok(text)
+}
+
 /// Writes the type at the end of `out`. An `Err`, for want of memory, leaves a part there.
-#[cycle(print_type)]
+#[cycle(types)]
 pub fn push_type(out: &mut String, t: &HolType) -> Result<(), AllocError>
     ensures { OnOk result (string_bytes out.new ≡ string_bytes out.old ++ ty_text t.now) }
 {
@@ -47,7 +68,7 @@ pub fn push_type(out: &mut String, t: &HolType) -> Result<(), AllocError>
 }
 
 /// Writes the name applied to the types.
-#[cycle(print_type)]
+#[cycle(types)]
 #[tactic(auto, using(crate::proofs::PrintLemmas::type_lemmas))]
 fn push_named(out: &mut String, name: &str, args: &[HolType]) -> Result<(), AllocError>
     ensures { OnOk result (string_bytes out.new ≡ string_bytes out.old ++ ty_text (ty_app name.now (tys args.now))) }
@@ -75,7 +96,7 @@ fn push_named(out: &mut String, name: &str, args: &[HolType]) -> Result<(), Allo
 }
 
 /// Writes the type, in parentheses if it is a function type.
-#[cycle(print_type)]
+#[cycle(types)]
 fn push_domain(out: &mut String, t: &HolType) -> Result<(), AllocError>
     ensures { OnOk result (string_bytes out.new ≡ string_bytes out.old ++ parenthesized (is_function t.now) (ty_text t.now)) }
 {
@@ -89,7 +110,7 @@ fn push_domain(out: &mut String, t: &HolType) -> Result<(), AllocError>
 }
 
 /// Writes the types with commas between them.
-#[cycle(print_type)]
+#[cycle(types)]
 #[tactic(auto, using(crate::proofs::PrintLemmas::type_lemmas))]
 fn push_types(out: &mut String, types: &[HolType]) -> Result<(), AllocError>
     ensures { OnOk result (string_bytes out.new ≡ string_bytes out.old ++ with_commas (tys_texts (tys types.now))) }
@@ -210,8 +231,9 @@ fn is_atom(t: &Term) -> bool
     }
 }
 
-/// Writes the term, which `depth` binders enclose, at the end of `out`. An `Err`, for want of memory, leaves a part there.
-#[cycle(print_term)]
+/// Writes the term, which `depth` binders enclose, at the end of `out`. An `Err`, for want of memory or where `depth` and the binders
+/// of the term don't fit a machine word together, leaves a part there.
+#[cycle(terms)]
 #[tactic(auto, using(crate::proofs::PrintLemmas::term_lemmas))]
 pub fn push_term(out: &mut String, t: &Term, depth: usize) -> Result<(), AllocError>
     ensures { OnOk result (string_bytes out.new ≡ string_bytes out.old ++ (printed depth t.now).whole) }
@@ -235,7 +257,7 @@ pub fn push_term(out: &mut String, t: &Term, depth: usize) -> Result<(), AllocEr
 }
 
 /// Writes the variable of a binder, its type and the body.
-#[cycle(print_term)]
+#[cycle(terms)]
 #[tactic(auto, using(crate::proofs::PrintLemmas::term_lemmas))]
 fn push_scope(out: &mut String, a: &HolType, b: &Term, depth: usize) -> Result<(), AllocError>
     ensures { OnOk result (string_bytes out.new ≡ string_bytes out.old ++ (printed depth (tm_abs a.now b.now)).scope) }
@@ -251,7 +273,7 @@ fn push_scope(out: &mut String, a: &HolType, b: &Term, depth: usize) -> Result<(
 }
 
 /// Writes the application of `f` to `x`.
-#[cycle(print_term)]
+#[cycle(terms)]
 #[tactic(auto, using(crate::proofs::PrintLemmas::term_lemmas))]
 fn push_application(out: &mut String, f: &Term, x: &Term, depth: usize) -> Result<(), AllocError>
     ensures { OnOk result (string_bytes out.new ≡ string_bytes out.old ++ (printed depth (tm_comb f.now x.now)).whole) }
@@ -279,7 +301,7 @@ fn push_application(out: &mut String, f: &Term, x: &Term, depth: usize) -> Resul
 }
 
 /// Writes the term, in parentheses unless it is plain.
-#[cycle(print_term)]
+#[cycle(terms)]
 #[tactic(auto, using(crate::proofs::PrintLemmas::term_lemmas))]
 fn push_operand(out: &mut String, t: &Term, depth: usize) -> Result<(), AllocError>
     ensures { OnOk result (string_bytes out.new ≡ string_bytes out.old ++ parenthesized (not (is_plain t.now)) (printed depth t.now).whole) }
@@ -294,7 +316,7 @@ fn push_operand(out: &mut String, t: &Term, depth: usize) -> Result<(), AllocErr
 }
 
 /// Writes the term, in parentheses unless it is a variable or a constant.
-#[cycle(print_term)]
+#[cycle(terms)]
 #[tactic(auto, using(crate::proofs::PrintLemmas::term_lemmas))]
 fn push_argument(out: &mut String, t: &Term, depth: usize) -> Result<(), AllocError>
     ensures { OnOk result (string_bytes out.new ≡ string_bytes out.old ++ parenthesized (not (is_atom t.now)) (printed depth t.now).whole) }
@@ -330,114 +352,4 @@ pub fn theorem_line(alloc: Global, name: &str, concl: &Term) -> Result<String, A
     line.push_str(" : ")?;
     push_term(&mut line, concl, 0)?;
     Ok(line)
-}
-
-#[cfg(test)]
-mod tests {
-    use super::{definition_line, push_type, theorem_line};
-    use hol_terms::defs::Def;
-    use hol_terms::terms::{Term, Var};
-    use hol_terms::types::HolType;
-    use std::alloc::{AllocError, Global};
-    use std::test::Fail;
-    use stmt_core::base_def;
-
-    // Numbers of base definitions, and their lines.
-    static BASE_LINES: [(u32, &str); 6] = [
-        (
-            2,
-            "def conj : bool -> bool -> bool = \\x0:bool. \\x1:bool. (\\x2:bool -> bool -> bool. x2 x0 x1) = (\\x2:bool -> bool -> bool. x2 T T)",
-        ),
-        (
-            3,
-            "def imp : bool -> bool -> bool = \\x0:bool. \\x1:bool. (x0 /\\ x1) = x0",
-        ),
-        (
-            5,
-            "def ex : ('a -> bool) -> bool = \\x0:'a -> bool. !x1:bool. (!x2:'a. x0 x2 ==> x1) ==> x1",
-        ),
-        (8, "def not : bool -> bool = \\x0:bool. x0 ==> F"),
-        (
-            9,
-            "def one_one : ('a -> 'b) -> bool = \\x0:'a -> 'b. !x1:'a. !x2:'a. (x0 x1 = x0 x2) ==> (x1 = x2)",
-        ),
-        (
-            10,
-            "def onto : ('a -> 'b) -> bool = \\x0:'a -> 'b. !x1:'b. ?x2:'a. x1 = x0 x2",
-        ),
-    ];
-
-    // The line of a constant's definition.
-    fn line_of(alloc: Global, def: &Def) -> Result<String, AllocError> {
-        match def {
-            Def::Const { name, body } => definition_line(alloc, name, body),
-            Def::NewType { name, .. } => name.clone(),
-        }
-    }
-
-    #[test]
-    fn prints_base_definitions(rt: HostRuntime) -> Result<(), Fail> {
-        let alloc = rt.alloc();
-        for (n, want) in &BASE_LINES {
-            assert!(rt; 0 < *n && *n <= 52);
-            let def = base_def(alloc, *n)?;
-            assert_eq!(rt; line_of(alloc, &def)?.as_str(), *want);
-        }
-        Ok(())
-    }
-
-    #[test]
-    fn prints_free_variables_and_type_arguments(rt: HostRuntime) -> Result<(), Fail> {
-        let alloc = rt.alloc();
-        let truth = HolType::app(alloc, "bool", &[])?;
-        let function = HolType::fun(
-            alloc,
-            &HolType::var(alloc, "a")?,
-            &HolType::var(alloc, "b")?,
-        )?;
-        let predicate = HolType::fun(alloc, &function, &truth)?;
-        let v = Term::mk_var(alloc, &Var::new(alloc, "a", &truth)?)?;
-        let one_one = Term::mk_own_const(alloc, "one_one", &predicate)?;
-        let table = [
-            (
-                Term::mk_eq(alloc, &v, &v)?,
-                "thm same : [a:bool] = [a:bool]",
-            ),
-            (
-                Term::mk_eq(alloc, &one_one, &one_one)?,
-                "thm same : one_one{'a,'b} = one_one{'a,'b}",
-            ),
-        ];
-        for (concl, want) in &table {
-            let line = theorem_line(alloc, "same", concl)?;
-            assert_eq!(rt; line.as_str(), *want);
-        }
-        Ok(())
-    }
-
-    #[test]
-    fn prints_types(rt: HostRuntime) -> Result<(), Fail> {
-        let alloc = rt.alloc();
-        let a = HolType::var(alloc, "a")?;
-        let b = HolType::var(alloc, "b")?;
-        let truth = HolType::app(alloc, "bool", &[])?;
-        let test = HolType::fun(alloc, &a, &truth)?;
-        let tests = HolType::app(alloc, "list", &[test.copy()?])?;
-        let pair = HolType::app(alloc, "prod", &[a.copy()?, b])?;
-        let list = HolType::app(alloc, "list", &[a])?;
-        let table = [
-            (HolType::fun(alloc, &test, &truth)?, "('a -> bool) -> bool"),
-            (
-                HolType::fun(alloc, &pair, &list)?,
-                "('a,'b) prod -> 'a list",
-            ),
-            (tests, "('a -> bool) list"),
-        ];
-        for (t, want) in &table {
-            let mut text = String::new(alloc);
-            push_type(&mut text, t)?;
-            assert_eq!(rt; text.as_str(), *want);
-        }
-        Ok(())
-    }
 }

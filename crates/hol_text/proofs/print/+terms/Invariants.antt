@@ -1,6 +1,6 @@
 use Rattle.std.proofs.Common.{◌+◌, ◌*◌}
 use Rattle.hol_terms.specs.Tm.{tm_size}
-use Rattle.hb_top.proofs.print.+print_term.Given as goal
+use Rattle.hol_text.proofs.print.+terms.Given as goal
 
 abbrev pub decreases-push_term : goal.decreases-push_term
 decreases-push_term l = 2 * tm_size l.t.now

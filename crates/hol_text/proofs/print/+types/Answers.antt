@@ -1,6 +1,6 @@
 use Rattle.std.proofs.Common.{arith}
-use Rattle.hb_top.proofs.PrintLemmas.{ty_size-at_part}
-use Rattle.hb_top.proofs.print.+print_type.Goals as goal
+use Rattle.hol_text.proofs.PrintLemmas.{ty_size-at_part}
+use Rattle.hol_text.proofs.print.+types.Goals as goal
 
 pub push_types-push_type-requires-in-loop-t : goal.push_types-push_type-requires-in-loop-t
 push_types-push_type-requires-in-loop-t t c =

@@ -1,0 +1,139 @@
+-- The canonical text of a term reads as the term.
+use Rattle.std.proofs.Common.{◌≡◌, ℕ, zero, suc, ◌+◌, ◌<◌, ◌≤◌, ◌^◌, Bool, true, false, not, List, [], ◌∷◌, ◌++◌, length, length-append, cond, refl, ap, sym, ◌∙◌, subst, arith}
+use Rattle.std.specs.Prelude.{codes, bytes_eq}
+use Rattle.hol_terms.specs.Name.{Name}
+use Rattle.hol_terms.specs.Ty.{Ty}
+use Rattle.hol_terms.specs.Tm.{Tm, tm_index, tm_free, tm_const, tm_comb, tm_abs, tm_size}
+use Rattle.hol_terms.specs.Signature.{Signature, IsConstOver, IsOver}
+use Rattle.hol_terms.specs.Text.{Text, parenthesized, sugar, none, is_plain, is_atom}
+use Rattle.hol_text.specs.ReadsBack.{ReadsBack}
+use Rattle.hol_text.proofs.PrintLemmas.{tm_size-positive}
+use Rattle.hol_text.proofs.ReadBackAtoms.{text_at, ReadsTm}
+use Rattle.hol_text.proofs.ReadBackLeaves.{index_reads, constant_reads, free_reads}
+use Rattle.hol_text.proofs.ReadBackApplications.{operand_text, argument_text, paren_length, application_text, application_reads}
+use Rattle.hol_text.proofs.ReadBackSugar.{same_name, around, eq_reads, conj_reads, disj_reads, imp_reads, not_text, not_reads, scope_text, scope_length_is, abs_reads, all_reads, ex_reads}
+
+-- the terms up to a size, of texts that fit
+abbrev pub Smaller : ℕ → Signature → Type 0
+Smaller m s = (bound : List Ty) (t : Tm) → tm_size t ≤ m → length bound + length (text_at bound t) < 2 ^ 64 → IsOver s bound t → ReadsTm s bound t
+
+operand_long : (bound : List Ty) (t : Tm) → length (text_at bound t) ≤ length (operand_text bound t)
+operand_long bound t = at (is_plain t)
+  where
+    at : (b : Bool) → length (text_at bound t) ≤ length (parenthesized (not b) (text_at bound t))
+    at true = omega arith
+    at false = omega (arith, paren_length (text_at bound t))
+
+argument_long : (bound : List Ty) (t : Tm) → length (text_at bound t) ≤ length (argument_text bound t)
+argument_long bound t = at (is_atom t)
+  where
+    at : (b : Bool) → length (text_at bound t) ≤ length (parenthesized (not b) (text_at bound t))
+    at true = omega arith
+    at false = omega (arith, paren_length (text_at bound t))
+
+-- ---- applications
+
+plain_case : (m : ℕ) (s : Signature) → ReadsBack s → Smaller m s → (bound : List Ty) (f x : Tm) → sugar f x ≡ none → tm_size (tm_comb f x) ≤ suc m
+    → length bound + length (text_at bound (tm_comb f x)) < 2 ^ 64 → IsOver s bound (tm_comb f x) → ReadsTm s bound (tm_comb f x)
+plain_case m s b small bound f x e z l o =
+    let size = length-append (operand_text bound f) (codes " " ++ argument_text bound x) in
+    let whole = ap length (application_text bound f x e) in
+    let lf = operand_long bound f in
+    let lx = argument_long bound x in
+    application_reads s bound f x e (small bound f (omega (arith, z)) (omega (arith, size, whole, lf, l)) o.0) (small bound x (omega (arith, z)) (omega (arith, size, whole, lx, l)) o.1) o
+
+-- two operands, from the length of their text
+infix_parts : (m : ℕ) (s : Signature) → Smaller m s → (bound : List Ty) (c sign : Text) (ts : List Ty) (ty : Ty) (a x : Tm) → text_at bound (around c ts ty a x) ≡ (operand_text bound a ++ sign) ++ operand_text bound x
+    → tm_size (around c ts ty a x) ≤ suc m → length bound + length (text_at bound (around c ts ty a x)) < 2 ^ 64 → IsOver s bound (around c ts ty a x) → ReadsTm s bound a × ReadsTm s bound x
+infix_parts m s small bound c sign ts ty a x e z l o =
+    let sum = length-append (operand_text bound a ++ sign) (operand_text bound x) in
+    let more = length-append (operand_text bound a) sign in
+    let whole = ap length e in
+    (small bound a (omega (arith, z)) (omega (arith, sum, more, whole, operand_long bound a, l)) o.0.1, small bound x (omega (arith, z)) (omega (arith, sum, more, whole, operand_long bound x, l)) o.1)
+
+-- what is to be shown of two operands and a constant
+abbrev Infix : ℕ → Signature → List Ty → List Ty → Ty → Tm → Tm → Name → Type 0
+Infix m s bound ts ty a x c = tm_size (around c ts ty a x) ≤ suc m → length bound + length (text_at bound (around c ts ty a x)) < 2 ^ 64 → IsOver s bound (around c ts ty a x) → ReadsTm s bound (around c ts ty a x)
+
+eq_case : (m : ℕ) (s : Signature) → ReadsBack s → Smaller m s → (bound ts : List Ty) (ty : Ty) (a x : Tm) → Infix m s bound ts ty a x (codes "eq")
+eq_case m s b small bound ts ty a x z l o = let p = infix_parts m s small bound (codes "eq") (codes " = ") ts ty a x refl z l o in eq_reads s bound a x ts ty b o p.0 p.1
+
+conj_case : (m : ℕ) (s : Signature) → ReadsBack s → Smaller m s → (bound ts : List Ty) (ty : Ty) (a x : Tm) → Infix m s bound ts ty a x (codes "conj")
+conj_case m s b small bound ts ty a x z l o = let p = infix_parts m s small bound (codes "conj") (codes " /\\ ") ts ty a x refl z l o in conj_reads s bound a x ts ty b o p.0 p.1
+
+disj_case : (m : ℕ) (s : Signature) → ReadsBack s → Smaller m s → (bound ts : List Ty) (ty : Ty) (a x : Tm) → Infix m s bound ts ty a x (codes "disj")
+disj_case m s b small bound ts ty a x z l o = let p = infix_parts m s small bound (codes "disj") (codes " \\/ ") ts ty a x refl z l o in disj_reads s bound a x ts ty b o p.0 p.1
+
+imp_case : (m : ℕ) (s : Signature) → ReadsBack s → Smaller m s → (bound ts : List Ty) (ty : Ty) (a x : Tm) → Infix m s bound ts ty a x (codes "imp")
+imp_case m s b small bound ts ty a x z l o = let p = infix_parts m s small bound (codes "imp") (codes " ==> ") ts ty a x refl z l o in imp_reads s bound a x ts ty b o p.0 p.1
+
+infix_case : (m : ℕ) (s : Signature) → ReadsBack s → Smaller m s → (bound ts : List Ty) (ty : Ty) (a x : Tm) (c : Name) → Infix m s bound ts ty a x c
+infix_case m s b small bound ts ty a x c = at (bytes_eq c (codes "eq")) (bytes_eq c (codes "conj")) (bytes_eq c (codes "disj")) (bytes_eq c (codes "imp")) refl refl refl refl
+  where
+    at : (p q r t : Bool) → bytes_eq c (codes "eq") ≡ p → bytes_eq c (codes "conj") ≡ q → bytes_eq c (codes "disj") ≡ r → bytes_eq c (codes "imp") ≡ t → Infix m s bound ts ty a x c
+    at true q r t e f g h = subst (Infix m s bound ts ty a x) (sym (same_name c (codes "eq") e)) (eq_case m s b small bound ts ty a x)
+    at false true r t e f g h = subst (Infix m s bound ts ty a x) (sym (same_name c (codes "conj") f)) (conj_case m s b small bound ts ty a x)
+    at false false true t e f g h = subst (Infix m s bound ts ty a x) (sym (same_name c (codes "disj") g)) (disj_case m s b small bound ts ty a x)
+    at false false false true e f g h = subst (Infix m s bound ts ty a x) (sym (same_name c (codes "imp") h)) (imp_case m s b small bound ts ty a x)
+    at false false false false e f g h = λ z l o. plain_case m s b small bound (tm_comb (tm_const c ts ty) a) x (rw (e, f, g, h) refl) z l o
+
+-- what is to be shown of a constant and its argument
+abbrev Applied : ℕ → Signature → List Ty → List Ty → Ty → Tm → Name → Type 0
+Applied m s bound ts ty x c =
+    tm_size (tm_comb (tm_const c ts ty) x) ≤ suc m → length bound + length (text_at bound (tm_comb (tm_const c ts ty) x)) < 2 ^ 64 → IsOver s bound (tm_comb (tm_const c ts ty) x) → ReadsTm s bound (tm_comb (tm_const c ts ty) x)
+
+not_case : (m : ℕ) (s : Signature) → ReadsBack s → Smaller m s → (bound ts : List Ty) (ty : Ty) (x : Tm) → Applied m s bound ts ty x (codes "not")
+not_case m s b small bound ts ty x z l o =
+    not_reads s bound x ts ty b o (small bound x (omega (arith, z)) (omega (arith, ap length (not_text bound x ts ty), operand_long bound x, l)) o.1)
+
+-- the body of a binder
+body_of : (m : ℕ) (s : Signature) → Smaller m s → (bound : List Ty) (u : Ty) (d : Tm) → tm_size d ≤ m → length bound + length (scope_text bound u d) < 2 ^ 64 → IsOver s bound (tm_abs u d) → ReadsTm s (u ∷ bound) d
+body_of m s small bound u d z l o = small (u ∷ bound) d z (omega (arith, scope_length_is bound u d, l)) o.1
+
+all_case : (m : ℕ) (s : Signature) → ReadsBack s → Smaller m s → (bound ts : List Ty) (ty u : Ty) (d : Tm) → Applied m s bound ts ty (tm_abs u d) (codes "all")
+all_case m s b small bound ts ty u d z l o = all_reads s bound u d ts ty b (omega (arith, l)) o (body_of m s small bound u d (omega (arith, z)) (omega (arith, l)) o.1)
+
+ex_case : (m : ℕ) (s : Signature) → ReadsBack s → Smaller m s → (bound ts : List Ty) (ty u : Ty) (d : Tm) → Applied m s bound ts ty (tm_abs u d) (codes "ex")
+ex_case m s b small bound ts ty u d z l o = ex_reads s bound u d ts ty b (omega (arith, l)) o (body_of m s small bound u d (omega (arith, z)) (omega (arith, l)) o.1)
+
+-- a constant that is not `not`
+other_case : (m : ℕ) (s : Signature) → ReadsBack s → Smaller m s → (bound ts : List Ty) (ty : Ty) (x : Tm) (c : Name) → bytes_eq c (codes "not") ≡ false → Applied m s bound ts ty x c
+other_case m s b small bound ts ty (tm_abs u d) c e = at (bytes_eq c (codes "all")) (bytes_eq c (codes "ex")) refl refl
+  where
+    at : (p q : Bool) → bytes_eq c (codes "all") ≡ p → bytes_eq c (codes "ex") ≡ q → Applied m s bound ts ty (tm_abs u d) c
+    at true q f g = subst (Applied m s bound ts ty (tm_abs u d)) (sym (same_name c (codes "all") f)) (all_case m s b small bound ts ty u d)
+    at false true f g = subst (Applied m s bound ts ty (tm_abs u d)) (sym (same_name c (codes "ex") g)) (ex_case m s b small bound ts ty u d)
+    at false false f g = λ z l o. plain_case m s b small bound (tm_const c ts ty) (tm_abs u d) (rw (e, f, g) refl) z l o
+other_case m s b small bound ts ty (tm_index i t) c e = λ z l o. plain_case m s b small bound (tm_const c ts ty) (tm_index i t) (rw e refl) z l o
+other_case m s b small bound ts ty (tm_free v) c e = λ z l o. plain_case m s b small bound (tm_const c ts ty) (tm_free v) (rw e refl) z l o
+other_case m s b small bound ts ty (tm_const n us t) c e = λ z l o. plain_case m s b small bound (tm_const c ts ty) (tm_const n us t) (rw e refl) z l o
+other_case m s b small bound ts ty (tm_comb f x) c e = λ z l o. plain_case m s b small bound (tm_const c ts ty) (tm_comb f x) (rw e refl) z l o
+
+constant_case : (m : ℕ) (s : Signature) → ReadsBack s → Smaller m s → (bound ts : List Ty) (ty : Ty) (x : Tm) (c : Name) → Applied m s bound ts ty x c
+constant_case m s b small bound ts ty x c = at (bytes_eq c (codes "not")) refl
+  where
+    at : (p : Bool) → bytes_eq c (codes "not") ≡ p → Applied m s bound ts ty x c
+    at true e = subst (Applied m s bound ts ty x) (sym (same_name c (codes "not") e)) (not_case m s b small bound ts ty x)
+    at false e = other_case m s b small bound ts ty x c e
+
+application_case : (m : ℕ) (s : Signature) → ReadsBack s → Smaller m s → (bound : List Ty) (f x : Tm) → tm_size (tm_comb f x) ≤ suc m
+    → length bound + length (text_at bound (tm_comb f x)) < 2 ^ 64 → IsOver s bound (tm_comb f x) → ReadsTm s bound (tm_comb f x)
+application_case m s b small bound (tm_index i t) x z l o = plain_case m s b small bound (tm_index i t) x refl z l o
+application_case m s b small bound (tm_free v) x z l o = plain_case m s b small bound (tm_free v) x refl z l o
+application_case m s b small bound (tm_const c ts ty) x z l o = constant_case m s b small bound ts ty x c z l o
+application_case m s b small bound (tm_comb (tm_index i t) a) x z l o = plain_case m s b small bound (tm_comb (tm_index i t) a) x refl z l o
+application_case m s b small bound (tm_comb (tm_free v) a) x z l o = plain_case m s b small bound (tm_comb (tm_free v) a) x refl z l o
+application_case m s b small bound (tm_comb (tm_const c ts ty) a) x z l o = infix_case m s b small bound ts ty a x c z l o
+application_case m s b small bound (tm_comb (tm_comb g y) a) x z l o = plain_case m s b small bound (tm_comb (tm_comb g y) a) x refl z l o
+application_case m s b small bound (tm_comb (tm_abs t d) a) x z l o = plain_case m s b small bound (tm_comb (tm_abs t d) a) x refl z l o
+application_case m s b small bound (tm_abs t d) x z l o = plain_case m s b small bound (tm_abs t d) x refl z l o
+
+-- ---- every term
+
+pub reads_term : (m : ℕ) (s : Signature) → ReadsBack s → Smaller m s
+reads_term zero s b bound t z l o = absurd (omega (arith, tm_size-positive t, z))
+reads_term (suc m) s b bound (tm_index i t) z l o = index_reads s bound i t o.0 (omega (arith, l))
+reads_term (suc m) s b bound (tm_free v) z l o = free_reads s bound v b o.0 o.1
+reads_term (suc m) s b bound (tm_const c ts t) z l o = constant_reads s bound c ts t b (omega (arith, l)) o
+reads_term (suc m) s b bound (tm_comb f x) z l o = application_case m s b (λ c t. reads_term m s b c t) bound f x z l o
+reads_term (suc m) s b bound (tm_abs u d) z l o = abs_reads s bound u d b (omega (arith, l)) o (body_of m s (λ c t. reads_term m s b c t) bound u d (omega (arith, z)) (omega (arith, l)) o)

@@ -1,0 +1,13 @@
+pub mod Answers
+pub mod BoundViews
+pub mod Fitting
+pub mod LexerViews
+pub mod Meaning
+pub mod MeaningViews
+pub mod Printing
+pub mod Reading
+pub mod Reads
+pub mod ReadsBack
+pub mod ScopeViews
+pub mod TokenViews
+pub mod Tokens
