@@ -1,5 +1,5 @@
 -- The base definitions by their places.
-use Rattle.std.proofs.Common.{◌≡◌, ℕ, zero, suc, ◌+◌, ◌<◌, Bool, true, false, List, [], ◌∷◌, ◌++◌, take, slice_get, Some, refl, ap, add-one, arith}
+use Rattle.std.proofs.Common.{◌≡◌, ℕ, zero, suc, ◌<◌, Bool, true, false, List, [], ◌∷◌, take, slice_get, Some, refl, arith}
 use Rattle.std.specs.List.{list_all}
 use Rattle.std.proofs.lemmas.Bool.{and_parts}
 use Rattle.hol_terms.specs.Name.{Name}
@@ -8,14 +8,6 @@ use Rattle.hol_terms.specs.Definition.{Definition, const_def, type_def}
 use Rattle.hol_terms.specs.Base.{base, base_definitions}
 use Rattle.hol_terms.specs.Logic.{base_1, base_2, base_3, base_4, base_5, base_6, base_7, base_8, base_9, base_10}
 use Rattle.hb_top.specs.Answer.{in_force}
-
-take-push : {X : Type 0} (xs : List X) (k : ℕ) (x : X) → slice_get xs k ≡ Some x → take k xs ++ x ∷ [] ≡ take (suc k) xs
-take-push [] k x e = cc
-take-push (y ∷ xs) zero x e = cc
-take-push (y ∷ xs) (suc k) x e = ap (λ ys. y ∷ ys) (take-push xs k x e)
-
-pub base-push : (k : ℕ) (d : Definition) → slice_get base_definitions k ≡ Some d → base k ++ d ∷ [] ≡ base (k + 1)
-base-push k d e = rw add-one (take-push base_definitions k d e)
 
 abbrev is_constant : Definition → Bool
 is_constant (const_def c t) = true

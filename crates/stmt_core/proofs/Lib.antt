@@ -1,3 +1,4 @@
+pub mod BaseSteps
 pub mod BaseSignature
 pub mod FactsRead
 pub mod FormulaLemmas

@@ -130,11 +130,14 @@ pub fn fact_stmt(alloc: Global, fact: Fact) -> Result<Term, AllocError>
     match read_term(alloc, &sig, text_of(fact)) {
         Ok(t) => Ok(t),
         Err(ReadError::Memory) => Err(AllocError),
-        Err(_) => unreachable!(),
+        Err(ReadError::Syntax { .. }) => unreachable!(),
+        Err(ReadError::Unknown { .. }) => unreachable!(),
+        Err(ReadError::IllTyped { .. }) => unreachable!(),
     }
 }
 
 /// The signature of the base definitions.
+#[tactic(auto, using(crate::proofs::BaseSteps::base_whole))]
 fn base_signature(alloc: Global) -> Result<Sig, AllocError>
     ensures { IfOk result (λ sig. sig ≡ signature_of base_definitions) }
 {
@@ -152,7 +155,8 @@ fn add_base(alloc: Global, sig: &mut Sig, place: u32) -> Result<(), AllocError>
     ensures { OnOk result (sig.new ≡ signature_of (base (place + 1))) }
 {
     let next = base_def(alloc, place + 1)?;
-    sig.add_def(alloc, &next)
+    sig.add_def(alloc, &next)?;
+    Ok(())
 }
 
 /// The statement of the fact, in canonical text.

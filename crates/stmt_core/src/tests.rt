@@ -6,11 +6,12 @@ ghost use Rattle.hol_terms.specs.Loose.{IsClosedAt};
 ghost use Rattle.hol_terms.specs.Definition.{bool_ty};
 ghost use Rattle.stmt_core.specs.Formulas.{IsBoolean};
 
-use crate::base_def;
 use crate::connectives::{all, conj, disj, eq, ex, imp, neg};
+use crate::{Fact, LogicFact, ProductFact, SumFact, base_def, fact_stmt};
 use hol_terms::defs::Def;
 use hol_terms::terms::{Term, TermNode, Var};
 use hol_terms::types::HolType;
+use hol_text::print::print_term;
 use std::alloc::{AllocError, Global};
 use std::cmp::Ordering;
 use std::process::Abort;
@@ -294,5 +295,36 @@ fn base_definitions_are_as_connectives_make_them(rt: HostRuntime) -> Result<(), 
     expect_base(&rt, alloc, 6, disjunction(alloc))?;
     expect_base(&rt, alloc, 7, falsity(alloc))?;
     expect_base(&rt, alloc, 13, is_true(alloc))?;
+    Ok(())
+}
+
+fn expect_stated(rt: &impl Abort, alloc: Global, fact: Fact, want: &str) -> Result<(), AllocError> {
+    let statement = fact_stmt(alloc, fact)?;
+    let text = print_term(alloc, &statement)?;
+    assert_eq!(rt; text.as_str(), want);
+    Ok(())
+}
+
+#[test]
+fn facts_are_stated(rt: HostRuntime) -> Result<(), Fail> {
+    let alloc = rt.alloc();
+    expect_stated(
+        &rt,
+        alloc,
+        Fact::Logic(LogicFact::ExcludedMiddle),
+        "!x0:bool. x0 \\/ (~ x0)",
+    )?;
+    expect_stated(
+        &rt,
+        alloc,
+        Fact::Product(ProductFact::FstPair),
+        "!x0:'a. !x1:'b. fst{'a,'b} (pair{'a,'b} x0 x1) = x0",
+    )?;
+    expect_stated(
+        &rt,
+        alloc,
+        Fact::Sum(SumFact::InlNotInr),
+        "!x0:'a. !x1:'b. ~ (inl{'a,'b} x0 = inr{'b,'a} x1)",
+    )?;
     Ok(())
 }

@@ -3,7 +3,7 @@ use Rattle.hol_terms.specs.Definition.{Definition, const_def}
 use Rattle.hol_terms.specs.Proves.{IsConstDef}
 use Rattle.hol_terms.proofs.BaseTyped.{const_def_at}
 use Rattle.hol_kernel.proofs.Fitting.{fault_free}
-use Rattle.hb_top.proofs.StartLemmas.{base-push}
+use Rattle.stmt_core.proofs.BaseSteps.{base-push}
 use Rattle.hb_top.proofs.start.define_next.Goals as goal
 
 pub define-requires-clause-fit : goal.define-requires-clause-fit
