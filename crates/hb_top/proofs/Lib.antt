@@ -13,6 +13,5 @@ pub mod Abstractions
 pub mod Defined
 pub mod NoNewline
 pub mod AroundLemmas
-pub mod StartLemmas
 pub mod Checking
 pub mod Running

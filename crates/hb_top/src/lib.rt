@@ -6,7 +6,6 @@ mod input;
 pub mod laws;
 mod output;
 mod read;
-mod start;
 #[cfg(test)]
 mod tests;
 mod top;

@@ -14,10 +14,10 @@ ghost use Rattle.hb_top.specs.Headline.{IsCheck};
 
 use crate::input::LIMIT;
 use crate::read::read_define;
-use crate::start::start;
 use hol_kernel::Kernel;
 use hol_terms::terms::Term;
 use hol_text::print::{definition_line, theorem_line};
+use kernel_lines::start;
 use std::alloc::{AllocError, Global};
 
 /// An output, and whether it ends in a refusal.

@@ -5,10 +5,10 @@ ghost use Rattle.hol_kernel.specs.Run.{axiom_at};
 
 mod printing;
 
-use crate::start::start;
 use crate::{Status, hbnf};
 use hb_io::{MemSink, MemSource, Source};
 use hol_text::print::theorem_line;
+use kernel_lines::start;
 use std::alloc::{AllocError, Global};
 use std::process::Abort;
 use std::test::Fail;

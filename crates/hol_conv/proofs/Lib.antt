@@ -1,4 +1,5 @@
 pub mod Contracting
+pub mod EtaLemmas
 pub mod FreshLemmas
 pub mod RuleLemmas
 pub mod ContractLemmas

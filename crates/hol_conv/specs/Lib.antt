@@ -1,5 +1,6 @@
 pub mod Reduction
 pub mod Fresh
 pub mod Conv
+pub mod Eta
 pub mod Rewriting
 pub mod Samples

@@ -2,6 +2,7 @@
 #![tactic(auto)]
 
 pub mod beta;
+pub mod eta;
 mod fresh;
 pub mod rewrite;
 #[cfg(test)]

@@ -1,9 +1,8 @@
-//! The kernel with the base definitions.
+//! The kernel that tables start from.
 
 ghost use Rattle.std.specs.Prelude.{◌≡◌, ◌+◌, ◌<◌, Some, slice_get, IfOk, OnOk};
 ghost use Rattle.hol_terms.specs.Definition.{const_def};
 ghost use Rattle.hol_terms.specs.Base.{base, base_definitions};
-ghost use Rattle.hb_top.specs.Answer.{in_force};
 
 use hol_kernel::Kernel;
 use hol_terms::defs::Def;
@@ -11,9 +10,9 @@ use hol_terms::terms::Term;
 use std::alloc::{AllocError, Global};
 use stmt_core::base_def;
 
-/// A kernel whose definitions are the base definitions in force, each made by `define`.
-pub(crate) fn start(alloc: Global) -> Result<Kernel, AllocError>
-    ensures { IfOk result (λ k. k.defs ≡ base in_force) }
+/// A kernel whose definitions are the first ten base definitions, those of the connectives and quantifiers, each made by `define`.
+pub fn start(alloc: Global) -> Result<Kernel, AllocError>
+    ensures { IfOk result (λ k. k.defs ≡ base 10) }
 {
     let mut kernel = Kernel::new(alloc)?;
     for place in 0..10 {
@@ -25,7 +24,7 @@ pub(crate) fn start(alloc: Global) -> Result<Kernel, AllocError>
 /// Defines the base definition at a place, in a kernel that has those before it.
 #[tactic(auto, using(crate::proofs::StartLemmas::no_type_lemmas))]
 fn define_at(alloc: Global, kernel: &mut Kernel, place: u32) -> Result<(), AllocError>
-    requires constant { place < in_force }
+    requires constant { place < 10 }
     requires so_far { kernel.old.defs ≡ base place }
     ensures { OnOk result (kernel.new.defs ≡ base (place + 1)) }
 {

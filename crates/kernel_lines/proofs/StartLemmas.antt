@@ -7,7 +7,6 @@ use Rattle.hol_terms.specs.Tm.{Tm}
 use Rattle.hol_terms.specs.Definition.{Definition, const_def, type_def}
 use Rattle.hol_terms.specs.Base.{base, base_definitions}
 use Rattle.hol_terms.specs.Logic.{base_1, base_2, base_3, base_4, base_5, base_6, base_7, base_8, base_9, base_10}
-use Rattle.hb_top.specs.Answer.{in_force}
 
 abbrev is_constant : Definition → Bool
 is_constant (const_def c t) = true
@@ -20,12 +19,12 @@ constants_at (const_def c t ∷ ds) (suc m) zero n p a l e = cc
 constants_at (type_def c t ∷ ds) (suc m) zero n p a l e = cc
 constants_at (d ∷ ds) (suc m) (suc k) n p a l e = constants_at ds m k n p (and_parts (is_constant d) (list_all is_constant (take m ds)) a).1 (omega arith) e
 
-all_constants : list_all is_constant (base in_force) ≡ true
+all_constants : list_all is_constant (base 10) ≡ true
 unfolding base_definitions base_1 base_2 base_3 base_4 base_5 base_6 base_7 base_8 base_9 base_10
 all_constants = refl
 
--- the base definitions in force are of constants
-pub no_type_at : (k : ℕ) (n : Name) (p : Tm) → k < in_force → slice_get base_definitions k ≡ Some (type_def n p) → ⊥
-no_type_at k n p l e = constants_at base_definitions in_force k n p all_constants l e
+-- the first ten base definitions are of constants
+pub no_type_at : (k : ℕ) (n : Name) (p : Tm) → k < 10 → slice_get base_definitions k ≡ Some (type_def n p) → ⊥
+no_type_at k n p l e = constants_at base_definitions 10 k n p all_constants l e
 
 pub ruleset no_type_lemmas = (no_type_at)

@@ -1,0 +1,5 @@
+pub mod Had
+pub mod Over
+pub mod Base
+pub mod Given
+pub mod StartLemmas
