@@ -6,9 +6,10 @@ ghost use Rattle.hol_terms.specs.Signature.{IsOver};
 ghost use Rattle.hol_terms.specs.Definition.{bool_ty, signature_of};
 ghost use Rattle.hol_terms.specs.Sequent.{eq_tm};
 ghost use Rattle.hol_conv.specs.Conv.{IsRedex};
-ghost use Rattle.hol_conv.specs.Samples.{truth, identity};
+ghost use Rattle.hol_conv.specs.Samples.{truth, identity, expansion};
 
 use crate::beta::{beta_conv, beta_norm};
+use crate::eta::eta_conv;
 use crate::rewrite::{rewrite_all, rewrite_at};
 use hol_kernel::{Kernel, Thm};
 use hol_terms::terms::{Term, Var};
@@ -130,5 +131,37 @@ fn equations_rewrite(rt: HostRuntime) -> Result<(), Fail> {
     };
     assert!(rt; all.concl().is_same(&want_all));
     assert!(rt; at.concl().is_same(&want_at));
+    Ok(())
+}
+
+// `\x. f x` and f, for a function f on truth values.
+fn expansion(alloc: Global) -> Result<(Term, Term), AllocError>
+    ensures { IfOk result (λ r. r.0 ≡ expansion) }
+{
+    let truth = HolType::app(alloc, "bool", &[])?;
+    let ty = HolType::fun(alloc, &truth, &truth)?;
+    let name = Var::new(alloc, "f", &ty)?;
+    let f = Term::mk_var(alloc, &name)?;
+    let x = Var::new(alloc, "x", &truth)?;
+    let argument = Term::mk_var(alloc, &x)?;
+    let body = Term::mk_comb(alloc, &f, &argument)?;
+    let t = Term::mk_abs(alloc, &x, &body)?;
+    Ok((t, f))
+}
+
+#[tactic(auto, using(crate::proofs::TestLemmas::eta_samples))]
+fn contracted(alloc: Global) -> Result<(Thm, Term, Term), AllocError> {
+    let mut k = kernel_lines::start(alloc)?;
+    let (t, f) = expansion(alloc)?;
+    let th = eta_conv(alloc, &mut k, &t)?;
+    Ok((th, t, f))
+}
+
+#[test]
+fn an_expanded_function_is_the_function(rt: HostRuntime) -> Result<(), Fail> {
+    let (th, t, f) = contracted(rt.alloc())?;
+    assert!(rt; th.hyps().is_empty());
+    assert!(rt; th.concl().left().is_same(&t));
+    assert!(rt; th.concl().right().is_same(&f));
     Ok(())
 }

@@ -2,12 +2,12 @@
 //! the kernel.
 #![tactic(auto)]
 
+mod base_kernel;
 pub mod line;
 mod made;
 mod put;
 pub mod run;
-mod start;
 
+pub use base_kernel::start;
 pub use line::{BaseName, Connective, Generic, Infer, Letter, Line, Make, Shape};
 pub use run::run_lines;
-pub use start::start;

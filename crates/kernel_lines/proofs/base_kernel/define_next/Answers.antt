@@ -4,7 +4,7 @@ use Rattle.hol_terms.specs.Proves.{IsConstDef}
 use Rattle.hol_terms.proofs.BaseTyped.{const_def_at}
 use Rattle.hol_kernel.proofs.Fitting.{fault_free}
 use Rattle.stmt_core.proofs.BaseSteps.{base-push}
-use Rattle.kernel_lines.proofs.start.define_next.Goals as goal
+use Rattle.kernel_lines.proofs.base_kernel.define_next.Goals as goal
 
 pub define-requires-clause-fit : goal.define-requires-clause-fit
 define-requires-clause-fit c =

@@ -1,6 +1,6 @@
 use Rattle.std.proofs.Common.{◌≡◌}
 use Rattle.hol_terms.specs.Base.{base}
-use Rattle.kernel_lines.proofs.start.start.Given as goal
+use Rattle.kernel_lines.proofs.base_kernel.start.Given as goal
 
 abbrev pub invariant-loop-place : goal.invariant-loop-place
 invariant-loop-place l = l.kernel.defs ≡ base l.place
