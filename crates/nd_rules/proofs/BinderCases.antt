@@ -23,7 +23,7 @@ use Rattle.hol_terms.proofs.AsciiNames.{is_name_from_ascii}
 use Rattle.hol_terms.proofs.BaseOpened.{opened_bases}
 use Rattle.hol_terms.proofs.Opened.{var_self}
 use Rattle.hol_terms.proofs.Typed.{IsOver-type}
-use Rattle.hol_terms.proofs.Weaken.{extends, IsOver-extend}
+use Rattle.hol_terms.proofs.Weaken.{extends, IsOver-extend, Proves-typed}
 use Rattle.hol_terms.proofs.InstLemmas.{IsOver-closed}
 use Rattle.hol_kernel.specs.State.{State, Theorem, Has, Grows}
 use Rattle.hol_kernel.proofs.Guards.{some_is, both_parts, no_is}
@@ -31,6 +31,7 @@ use Rattle.hol_kernel.proofs.Textbook.{assume_gives}
 use Rattle.hol_conv.specs.Reduction.{put, reduct}
 use Rattle.hol_conv.specs.Conv.{IsRedex, IsPlain}
 use Rattle.hol_conv.proofs.RuleLemmas.{given, some_of}
+use Rattle.hol_conv.proofs.RewriteLemmas.{sides, plain_is}
 use Rattle.kernel_lines.specs.Bases.{HasBase}
 use Rattle.nd_rules.specs.Connectives.{imp_tm, sym_rule, mp_rule, disch_rule}
 use Rattle.nd_rules.specs.Binders.{gen_rule, spec_rule, ex_i_rule, choose_rule, is_ex, case_of}
@@ -256,6 +257,29 @@ premise_mp l r q a exchanged e d = eq_mp_is [] a.hyps (imp_tm l q) (imp_tm r q) 
 pub gen_is : (v : FreeVar) (hs : List Tm) (p : Tm) (a : Sequent) → free_in_none v hs ≡ true → a ≡ seq hs p → gen_rule v a ≡ Some (seq hs (tm_comb (const_all v.ty) (lambda v p)))
 gen_is v hs p a h e = ap (gen_rule v) e ∙ rw (h) refl
 
+-- what the case says
+pub case_boolean : (k : State) (case : Theorem) → Has k case → IsDerivable case.defs case.sequent → IsPlain case → tm_type (left_of case.sequent.concl) ≡ bool_ty → tm_type (argument case.sequent.concl) ≡ bool_ty
+case_boolean k case h d p b = sym (sides k case h d (plain_is case p)).types ∙ b
+
+pub case_implied : (r : Tm) (case : Theorem) (b : Sequent) → r ≡ argument case.sequent.concl → tm_type (argument case.sequent.concl) ≡ bool_ty
+    → disch_rule r b ≡ Some (seq (without (argument case.sequent.concl) b.hyps) (imp_tm (argument case.sequent.concl) b.concl))
+case_implied r case b e t = ap (λ p. disch_rule p b) e ∙ disch_is b.hyps (argument case.sequent.concl) b.concl b t refl
+
+pub implied_shape : (r : Tm) (case : Theorem) (b implied : Sequent) → r ≡ argument case.sequent.concl → tm_type (argument case.sequent.concl) ≡ bool_ty → disch_rule r b ≡ Some implied
+    → implied.concl ≡ imp_tm (argument case.sequent.concl) (argument implied.concl)
+implied_shape r case b implied e t d =
+    subst (λ (s : Sequent). s.concl ≡ imp_tm (argument case.sequent.concl) (argument s.concl)) (sym (given (case_implied r case b e t) d)) refl
+
+pub from_case_is : (r : Tm) (case : Theorem) (b implied from_case : Sequent) → r ≡ argument case.sequent.concl → tm_type (argument case.sequent.concl) ≡ bool_ty → disch_rule r b ≡ Some implied
+    → from_case ≡ seq implied.hyps (imp_tm (left_of case.sequent.concl) (argument implied.concl))
+    → from_case ≡ seq (without (argument case.sequent.concl) b.hyps) (imp_tm (left_of case.sequent.concl) b.concl)
+from_case_is r case b implied from_case e t d f = f ∙ ap (λ (s : Sequent). seq s.hyps (imp_tm (left_of case.sequent.concl) (argument s.concl))) (given (case_implied r case b e t) d)
+
+pub each_gen : (v : FreeVar) (case : Theorem) (b from_case : Sequent) → free_in_none v (without (argument case.sequent.concl) b.hyps) ≡ true
+    → from_case ≡ seq (without (argument case.sequent.concl) b.hyps) (imp_tm (left_of case.sequent.concl) b.concl)
+    → gen_rule v from_case ≡ Some (seq (without (argument case.sequent.concl) b.hyps) (tm_comb (const_all v.ty) (lambda v (imp_tm (left_of case.sequent.concl) b.concl))))
+each_gen v case b from_case f e = gen_is v (without (argument case.sequent.concl) b.hyps) (imp_tm (left_of case.sequent.concl) b.concl) from_case f e
+
 -- CHOOSE
 pub record Chooses (v : FreeVar) (a b : Sequent) : Type 0 where
   pub ex : is_ex v.ty a.concl ≡ true
@@ -270,16 +294,47 @@ chooses v a b h =
     let r = both_parts _ _ q.1 in
     record { ex = p.0; absent = no_is _ q.0; absent_concl = no_is _ r.0; none = r.1 }
 
-pub chosen_is : (v : FreeVar) (p x : Tm) (a b case each cases : Sequent) → Chooses v a b → ExShape v.ty a.concl p → x ≡ tm_free v → case ≡ seq [] (eq_tm (tm_comb p x) (case_of a.concl x))
+pub choose_shape : (v : FreeVar) (a b : Sequent) (c p : Tm) → Chooses v a b → c ≡ a.concl → p ≡ argument c → ExShape v.ty a.concl p
+choose_shape v a b c p h e d = ex_shape v.ty a.concl c p h.ex e d
+
+pub variable_over : (ds : List Definition) (v : FreeVar) (x : Tm) → IsOver (signature_of ds) [] (tm_free v) → x ≡ tm_free v → IsOver (signature_of ds) [] x
+variable_over ds v x o e = subst (IsOver (signature_of ds) []) (sym e) o
+
+pub variable_ty_over : (old new : State) (v : FreeVar) (ty : Ty) → Grows old new → IsOver (signature_of old.defs) [] (tm_free v) → ty ≡ v.ty → IsTyOver (signature_of new.defs) ty
+variable_ty_over old new v ty g o e = subst (λ (ds : List Definition). IsTyOver (signature_of ds) ty) (sym g.defs) (subst (IsTyOver (signature_of old.defs)) (sym e) o.1)
+
+pub case_plain : (r : Tm) (case : Theorem) → case.sequent ≡ seq [] (eq_tm r (reduced r)) → IsPlain case
+case_plain r case e = subst (λ (s : Sequent). s ≡ seq [] (eq_tm (left_of s.concl) (argument s.concl))) (sym e) refl
+
+pub case_left_boolean : (ty : Ty) (p x r : Tm) (case : Sequent) → tm_type p ≡ ty ⇒ bool_ty → r ≡ tm_comb p x → case ≡ seq [] (eq_tm r (reduced r)) → tm_type (left_of case.concl) ≡ bool_ty
+case_left_boolean ty p x r case t e d = ap (λ (s : Sequent). tm_type (left_of s.concl)) d ∙ ap tm_type e ∙ ap range_ty t
+
+pub case_free : (v : FreeVar) (p x : Tm) (a b case : Sequent) → Chooses v a b → x ≡ tm_free v → case ≡ seq [] (eq_tm (tm_comb p x) (case_of a.concl x)) → free_in_none v (without (argument case.concl) b.hyps) ≡ true
+case_free v p x a b case h e d = ap (λ (s : Sequent). free_in_none v (without (argument s.concl) b.hyps)) d ∙ ap (λ y. free_in_none v (without (case_of a.concl y) b.hyps)) e ∙ h.none
+
+pub typed_at : (v : FreeVar) (ty : Ty) (p : Tm) → tm_type p ≡ v.ty ⇒ bool_ty → ty ≡ v.ty → tm_type p ≡ ty ⇒ bool_ty
+typed_at v ty p t e = t ∙ ap (λ u. u ⇒ bool_ty) (sym e)
+
+pub over_concl_at : (k : State) (a : Theorem) (c : Tm) → Has k a → IsDerivable a.defs a.sequent → c ≡ a.sequent.concl → IsOver (signature_of k.defs) [] c
+over_concl_at k a c h d e = subst (IsOver (signature_of k.defs) []) (sym e) (over_concl k a h d)
+
+pub concl_boolean : (a : Theorem) (c : Tm) → IsDerivable a.defs a.sequent → c ≡ a.sequent.concl → tm_type c ≡ bool_ty
+concl_boolean a c d e = ap tm_type e ∙ (Proves-typed d.proof).concl_is.1
+
+pub concl_shape : (v : FreeVar) (ty : Ty) (p : Tm) (a : Sequent) → ExShape v.ty a.concl p → ty ≡ v.ty → a.concl ≡ tm_comb (const_ex ty) p
+concl_shape v ty p a s e = s.is ∙ ap (λ u. tm_comb (const_ex u) p) (sym e)
+
+pub chosen_is : (v : FreeVar) (p x : Tm) (a b case each cases : Sequent) (ty : Ty) (q : Tm) → Chooses v a b → ExShape v.ty a.concl p → x ≡ tm_free v → case ≡ seq [] (eq_tm (tm_comb p x) (case_of a.concl x))
+    → ty ≡ v.ty → q ≡ b.concl
     → each ≡ seq (without (argument case.concl) b.hyps) (tm_comb (const_all v.ty) (lambda v (imp_tm (left_of case.concl) b.concl)))
-    → cases ≡ seq a.hyps (imp_tm (each_case v.ty p b.concl) b.concl)
+    → cases ≡ seq a.hyps (imp_tm (each_case ty p q) q)
     → mp_rule cases each ≡ Some (seq (union a.hyps (without (case_of a.concl (tm_free v)) b.hyps)) b.concl)
-chosen_is v p x a b case each cases h s e d g f =
+chosen_is v p x a b case each cases ty q h s e d t u g f =
     let k = d ∙ ap (λ y. seq [] (eq_tm (tm_comb p y) (case_of a.concl y))) e in
     let absent : has_free v p ≡ false = sym (ap (has_free v) s.is) ∙ h.absent in
     let m = g ∙ ap (λ (c : Sequent). seq (without (argument c.concl) b.hyps) (tm_comb (const_all v.ty) (lambda v (imp_tm (left_of c.concl) b.concl)))) k
     ∙ ap (seq (without (case_of a.concl (tm_free v)) b.hyps)) (each_bound v p b.concl absent h.absent_concl) in
-    mp_is a.hyps (without (case_of a.concl (tm_free v)) b.hyps) (each_case v.ty p b.concl) b.concl cases each f m
+    mp_is a.hyps (without (case_of a.concl (tm_free v)) b.hyps) (each_case v.ty p b.concl) b.concl cases each (f ∙ (λ i. seq a.hyps (imp_tm (each_case (t i) p (u i)) (u i)))) m
 
 pub choose_gives : (v : FreeVar) (a b th : Sequent) → IsSome (choose_rule v a b) → th ≡ seq (union a.hyps (without (case_of a.concl (tm_free v)) b.hyps)) b.concl → choose_rule v a b ≡ Some th
 choose_gives v a b th h e = rw (held _ _ h) (ap Some (sym e))

@@ -6,8 +6,8 @@ use Rattle.nd_rules.specs.Binders.{case_of}
 use Rattle.nd_rules.proofs.BinderCases.{exists, ex_shape, ex_operand, ex_over, ex_predicate, takes_of, redex_over, redex_is, case_reduced, back_is, holds_is, exists_is, ex_i_gives}
 use Rattle.nd_rules.proofs.binders.ex_i.Goals as goal
 
-pub operand-requires : goal.operand-requires
-operand-requires c = ex_operand (tm_type c.args.t.now) c.args.e.now c.args.e.now (exists c.args.e.now c.args.t.now c.args.a.now.sequent c.requires.fits).ex refl
+pub operand-p-requires : goal.operand-p-requires
+operand-p-requires c = ex_operand (tm_type c.args.t.now) c.args.e.now c.args.e.now (exists c.args.e.now c.args.t.now c.args.a.now.sequent c.requires.fits).ex refl
 
 pub mk_comb-requires : goal.mk_comb-requires
 mk_comb-requires c =
