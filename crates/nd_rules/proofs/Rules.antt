@@ -6,8 +6,8 @@ use Rattle.hol_terms.specs.Notation.{◌·◌}
 use Rattle.hol_terms.specs.Typing.{tm_type, fun_ty, domain_ty, range_ty}
 use Rattle.hol_terms.specs.Signature.{Signature, IsOver}
 use Rattle.hol_terms.specs.Definition.{Definition, bool_ty, signature_of}
-use Rattle.hol_terms.specs.Sequent.{Sequent, IsEq, eq_tm, left_of, argument}
-use Rattle.hol_terms.specs.Rules.{if_so, both, same, same_ty, function, is_equation}
+use Rattle.hol_terms.specs.Sequent.{Sequent, IsEq, seq, union, eq_tm, left_of, argument}
+use Rattle.hol_terms.specs.Rules.{if_so, both, same, same_ty, function, is_equation, without}
 use Rattle.hol_terms.specs.Logic.{const_T, const_F}
 use Rattle.hol_terms.specs.Proves.{IsDerivable}
 use Rattle.hol_terms.proofs.Same.{same-is, same_ty-from}
@@ -19,6 +19,9 @@ use Rattle.hol_terms.proofs.Typed.{eq_sides}
 use Rattle.hol_kernel.specs.State.{State, Theorem, Has}
 use Rattle.kernel_lines.proofs.Given.{over_none, over_more, had_none, had_more, grows_on, base_grows, had_grows, over_grows, concl_bool}
 use Rattle.kernel_lines.proofs.Over.{concl_over}
+use Rattle.hol_kernel.specs.Ascending.{Ascends}
+use Rattle.hol_kernel.proofs.Ascending.{without_ascends}
+use Rattle.nd_rules.proofs.Hypotheses.{joined}
 use Rattle.nd_rules.specs.Shapes.{IsUnary, IsBinary, IsOperand, AreOperands, AreSides}
 use Rattle.nd_rules.specs.Connectives.{conj_tm, disj_tm, imp_tm, not_tm, is_conj, is_disj, is_imp}
 
@@ -125,3 +128,16 @@ ty_self t = tied_itself ty_cmp_total t
 
 pub some_is : (a b : Sequent) → Some a ≡ Some b → a ≡ b
 some_is a b e = cc
+
+-- what a theorem `A |- p = (p /\ r)` says
+pub eq_conj : {p q r s : Tm} {hs : List Tm} (a : Sequent) → a ≡ seq hs (eq_tm p (conj_tm p r)) → p ≡ q → r ≡ s → a.concl ≡ eq_tm q (conj_tm q s)
+eq_conj {p} {q} {r} {s} {hs} a e f g = ap (λ (b : Sequent). b.concl) e ∙ (λ i. eq_tm (f i) (conj_tm (f i) (g i)))
+
+-- the hypotheses of all three
+pub cases_joined : {p q r : Tm} {s t : Tm} (a b c th one other : Sequent) → Ascends a.hyps → Ascends c.hyps
+    → one ≡ seq (without p b.hyps) s → other ≡ seq (without q c.hyps) t → th ≡ seq (union (union one.hyps other.hyps) a.hyps) r → p ≡ left_of a.concl → q ≡ argument a.concl → b.concl ≡ r
+    → th ≡ seq (union (union a.hyps (without (left_of a.concl) b.hyps)) (without (argument a.concl) c.hyps)) b.concl
+cases_joined {p} {q} {r} {s} {t} a b c th one other ha hc d e f g h k =
+    f ∙ ((λ i. seq (union (union (d i).hyps (e i).hyps) a.hyps) (sym k i))
+    ∙ (ap (λ hs. seq hs b.concl) (joined a.hyps (without p b.hyps) (without q c.hyps) ha (without_ascends q c.hyps hc))
+    ∙ (λ i. seq (union (union a.hyps (without (g i) b.hyps)) (without (h i) c.hyps)) b.concl)))

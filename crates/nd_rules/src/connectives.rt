@@ -143,15 +143,32 @@ fn under(
     Ok(th)
 }
 
+/// The same, from the base.
+#[tactic(auto, using(crate::proofs::Rules::rule_lemmas))]
+fn assumed(alloc: Global, k: &mut Kernel, p: &Term, a: &Thm) -> Result<Thm, AllocError>
+    requires base { HasBase k.old.defs }
+    requires over { IsOver (signature_of k.old.defs) [] p.now }
+    requires boolean { tm_type p.now ≡ bool_ty }
+    requires had_a { Has k.old a.now }
+    ensures exact { IfOk result (λ th. th.sequent ≡ seq (without p.now a.now.sequent.hyps) (eq_tm p.now (conj_tm p.now a.now.sequent.concl))) }
+    ensures has { IfOk result (λ th. Has k.new th) }
+    ensures grows { Grows k.old k.new }
+{
+    let by_conj_with = conj_with(alloc, k)?;
+    let by_conj_first = conj_first(alloc, k)?;
+    let th = under(alloc, k, &by_conj_with, &by_conj_first, p, a)?;
+    Ok(th)
+}
+
 /// `A |- p \/ q`, `B |- p = (p /\ r)` and `C |- q = (q /\ r)` give `A, B, C |- r`.
 #[tactic(auto, using(crate::proofs::Rules::rule_lemmas))]
-fn merge(
+fn merge<'x>(
     alloc: Global,
     k: &mut Kernel,
-    r: &Term,
-    a: &Thm,
-    b: &Thm,
-    c: &Thm,
+    r: &'x Term,
+    a: &'x Thm,
+    b: &'x Thm,
+    c: &'x Thm,
 ) -> Result<Thm, AllocError>
     requires base { HasBase k.old.defs }
     requires had_a { Has k.old a.now }
@@ -184,11 +201,9 @@ pub fn disj_e(alloc: Global, k: &mut Kernel, a: &Thm, b: &Thm, c: &Thm) -> Resul
     ensures has { IfOk result (λ th. Has k.new th) }
     ensures grows { Grows k.old k.new }
 {
-    let by_conj_with = conj_with(alloc, k)?;
-    let by_conj_first = conj_first(alloc, k)?;
     let (p, q) = operands(k, a);
-    let one = under(alloc, k, &by_conj_with, &by_conj_first, p, b)?;
-    let other = under(alloc, k, &by_conj_with, &by_conj_first, q, c)?;
+    let one = assumed(alloc, k, p, b)?;
+    let other = assumed(alloc, k, q, c)?;
     let r = conclusion(k, c);
     let th = merge(alloc, k, r, a, &one, &other)?;
     Ok(th)
@@ -237,10 +252,8 @@ pub fn disch(alloc: Global, k: &mut Kernel, p: &Term, a: &Thm) -> Result<Thm, Al
     ensures has { IfOk result (λ th. Has k.new th) }
     ensures grows { Grows k.old k.new }
 {
-    let by_conj_with = conj_with(alloc, k)?;
-    let by_conj_first = conj_first(alloc, k)?;
     let by_means_imp = means_imp(alloc, k)?;
-    let both = under(alloc, k, &by_conj_with, &by_conj_first, p, a)?;
+    let both = assumed(alloc, k, p, a)?;
     let q = conclusion(k, a);
     let th = run_lines(alloc, k, &[p, q], &[&both, &by_means_imp], &DISCH)?;
     Ok(th)
