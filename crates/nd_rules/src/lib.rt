@@ -6,3 +6,5 @@ mod fact_tables;
 mod facts;
 mod operands;
 mod rule_tables;
+#[cfg(test)]
+mod tests;
