@@ -1,0 +1,4 @@
+pub mod Hypotheses
+pub mod Rules
+pub mod Starting
+pub mod Chains

@@ -1,0 +1,4 @@
+pub mod Facts
+pub mod Shapes
+pub mod Connectives
+pub mod Samples
