@@ -26,7 +26,7 @@ use std::test::Fail;
 use stmt_core::base_def;
 
 // The kernel with the first ten base definitions.
-fn start(alloc: Global) -> Result<Kernel, AllocError>
+pub(crate) fn start(alloc: Global) -> Result<Kernel, AllocError>
     ensures { IfOk result (λ k. k.defs ≡ base 10) }
 {
     let mut kernel = Kernel::new(alloc)?;
@@ -92,7 +92,7 @@ fn add_term(t: &Term, text: &mut String) -> Result<(), AllocError> {
 }
 
 // The hypotheses, each with a comma, and the conclusion.
-fn shown(alloc: Global, th: &Thm) -> Result<String, AllocError> {
+pub(crate) fn shown(alloc: Global, th: &Thm) -> Result<String, AllocError> {
     let mut text = String::new(alloc);
     for h in th.hyps() {
         add_term(h, &mut text)?;
