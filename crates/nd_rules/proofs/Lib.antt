@@ -1,0 +1,8 @@
+pub mod Hypotheses
+pub mod Rules
+pub mod Starting
+pub mod Chains
+pub mod BinderLemmas
+pub mod BinderSteps
+pub mod BinderCases
+pub mod BinderTestLemmas
