@@ -737,7 +737,7 @@ def files():
     }
 
 
-# The rules whose functions run several tables, and facts once for all of them.
+# The rules whose functions run several tables, each with its facts.
 SEVERAL = {"disj_e": ["under", "under", "merge"], "disch": ["under", "disch"]}
 
 
@@ -748,8 +748,7 @@ def count():
     for name in names:
         runs = SEVERAL.get(name, [name])
         own = sum(sum(l[0] == "Thm" for l in rule_table(*rows[run]).lines) for run in runs)
-        facts = {f.__name__ for run in runs for f in rows[run][3]}
-        print(name, own + sum(sizes[f] for f in facts))
+        print(name, own + sum(sizes[f.__name__] for run in runs for f in rows[run][3]))
 
 
 def main(words):
