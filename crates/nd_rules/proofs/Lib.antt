@@ -1,6 +1,5 @@
 pub mod Hypotheses
 pub mod Rules
-pub mod Starting
 pub mod Chains
 pub mod BinderLemmas
 pub mod BinderSteps

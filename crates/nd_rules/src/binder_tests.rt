@@ -11,10 +11,11 @@ ghost use Rattle.kernel_lines.specs.Bases.{HasBase};
 ghost use Rattle.nd_rules.specs.BinderSamples.{x_var, y_var, same_x, same_y, x_is_y, all_same, ex_same};
 
 use crate::binders::{choose, ex_i, gen_, spec, subst};
-use crate::tests::{shown, start};
+use crate::tests::shown;
 use hol_kernel::{Kernel, Thm};
 use hol_terms::terms::{Term, Var};
 use hol_terms::types::HolType;
+use kernel_lines::start;
 use std::alloc::{AllocError, Global};
 use std::test::Fail;
 use stmt_core::connectives::ex;

@@ -1,10 +1,9 @@
 //! What no clause says: that the rules succeed where there is memory; and what they give, written out.
 
-ghost use Rattle.std.specs.Prelude.{◌≡◌, ◌+◌, ◌<◌, [], ◌∷◌, Some, slice_get, IfOk, OnOk};
+ghost use Rattle.std.specs.Prelude.{◌≡◌, [], ◌∷◌, IfOk};
 ghost use Rattle.hol_terms.specs.Typing.{tm_type};
 ghost use Rattle.hol_terms.specs.Signature.{IsOver};
-ghost use Rattle.hol_terms.specs.Definition.{bool_ty, const_def, signature_of};
-ghost use Rattle.hol_terms.specs.Base.{base, base_definitions};
+ghost use Rattle.hol_terms.specs.Definition.{bool_ty, signature_of};
 ghost use Rattle.hol_kernel.specs.State.{Has, Grows};
 ghost use Rattle.kernel_lines.specs.Bases.{HasBase};
 ghost use Rattle.hol_terms.specs.Tm.{tm_free};
@@ -17,51 +16,11 @@ use crate::connectives::{
 };
 use crate::operands::conclusion;
 use hol_kernel::{Kernel, Thm};
-use hol_terms::defs::Def;
 use hol_terms::terms::{Term, TermNode, Var};
 use hol_terms::types::HolType;
-use kernel_lines::{Connective, Infer, Line, Make, run_lines};
+use kernel_lines::{Connective, Infer, Line, Make, run_lines, start};
 use std::alloc::{AllocError, Global};
 use std::test::Fail;
-use stmt_core::base_def;
-
-// The kernel with the first ten base definitions.
-pub(crate) fn start(alloc: Global) -> Result<Kernel, AllocError>
-    ensures { IfOk result (λ k. k.defs ≡ base 10) }
-{
-    let mut kernel = Kernel::new(alloc)?;
-    for place in 0..10 {
-        define_at(alloc, &mut kernel, place)?;
-    }
-    Ok(kernel)
-}
-
-#[tactic(auto, using(crate::proofs::Starting::no_type_lemmas))]
-fn define_at(alloc: Global, kernel: &mut Kernel, place: u32) -> Result<(), AllocError>
-    requires constant { place < 10 }
-    requires so_far { kernel.old.defs ≡ base place }
-    ensures { OnOk result (kernel.new.defs ≡ base (place + 1)) }
-{
-    match base_def(alloc, place + 1)? {
-        Def::Const { name, body } => define_next(alloc, kernel, place, &name, &body),
-        Def::NewType { .. } => unreachable!(),
-    }
-}
-
-fn define_next(
-    alloc: Global,
-    kernel: &mut Kernel,
-    place: u32,
-    name: &str,
-    body: &Term,
-) -> Result<(), AllocError>
-    requires so_far { kernel.old.defs ≡ base place }
-    requires next { slice_get base_definitions place ≡ Some (const_def name.now body.now) }
-    ensures { OnOk result (kernel.new.defs ≡ base (place + 1)) }
-{
-    let _th = kernel.define(alloc, name, body)?;
-    Ok(())
-}
 
 fn variable(alloc: Global, name: &str) -> Result<Term, AllocError>
     ensures { IfOk result (λ t. t ≡ tm_free (record { name = name.now; ty = bool_ty })) }
