@@ -1,6 +1,7 @@
 pub mod Answers
 pub mod BoundViews
 pub mod Fitting
+pub mod Grammar
 pub mod LexerViews
 pub mod Meaning
 pub mod MeaningViews

@@ -29,3 +29,9 @@ pub fn types_are_told_by_their_text()
 pub fn terms_are_told_by_their_text()
     ensures { (s : Signature) (t u : Tm) → ReadsBack s → IsOver s [] t → IsOver s [] u → length (tm_text t) < 2 ^ 64 → tm_text t ≡ tm_text u → t ≡ u }
 {}
+
+/// For a check of the lemmas.
+#[tactic(auto, using(crate::proofs::GrammarTypes::type_form))]
+pub fn grammar_law() -> u8 {
+    1
+}
