@@ -20,7 +20,7 @@ pub record Steps {A B : Type 0} (x : Front A) (f : A → List Token → Front B)
   pub was : x ≡ got value middle
   pub next : f value middle ≡ got v rest
 
-unlike : {A : Type 0} {C : Type 0} (p : ℕ) (v : A) (ts : List Token) → stop p ≡ got v ts → C
+pub unlike : {A : Type 0} {C : Type 0} (p : ℕ) (v : A) (ts : List Token) → stop p ≡ got v ts → C
 unlike {A} {C} p v ts e = absurd (apart e)
   where
     is_stop : Front A → Bool

@@ -31,7 +31,7 @@ pub fn terms_are_told_by_their_text()
 {}
 
 /// For a check of the lemmas.
-#[tactic(auto, using(crate::proofs::GrammarTypes::type_form))]
+#[tactic(auto, using(crate::proofs::GrammarTerms::term_form))]
 pub fn grammar_law() -> u8 {
     1
 }
