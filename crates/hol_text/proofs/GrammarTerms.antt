@@ -65,7 +65,7 @@ name_form s n b w p (token open_brace v q ∷ us) rest x e =
     record {
       front = name ∷ brace ∷ (ts.front ++ c.sign ∷ []);
       is = ap (λ vs. name ∷ brace ∷ vs) (ts.is ∙ ap (λ vs. ts.front ++ vs) (c.is ∙ ap (λ vs. c.sign ∷ vs) end) ∙ sym (append_assoc ts.front (c.sign ∷ []) rest));
-      form = at_types ts.front name brace c.sign refl refl ts.form c.kind_is
+      form = at_types ts.front name brace c.sign refl refl ts.form c.kind_is;
     }
 name_form s n b w p (token k v q ∷ us) rest x e = bare_name w p (token k v q ∷ us) rest (got_rest _ x (token k v q ∷ us) rest e)
 
@@ -80,7 +80,7 @@ free_form s n w p (token a_name v q ∷ us) rest x e =
     record {
       front = bracket ∷ name ∷ t.sign ∷ (t.type ++ c.sign ∷ []);
       is = ap (λ vs. bracket ∷ name ∷ vs) (t.is ∙ ap (λ vs. t.sign ∷ vs) (ap (λ vs. t.type ++ vs) c.is ∙ sym (append_assoc t.type (c.sign ∷ []) rest)));
-      form = free t.type bracket name t.sign c.sign refl refl t.kind_is t.form c.kind_is
+      form = free t.type bracket name t.sign c.sign refl refl t.kind_is t.form c.kind_is;
     }
 free_form s n w p (token k v q ∷ us) rest x e = unlike q x rest e
 
@@ -97,7 +97,7 @@ atom_form s read good n b (token open_paren w p ∷ us) rest x e =
     record {
       front = o ∷ (t.front ++ c.sign ∷ []);
       is = ap (λ vs. o ∷ vs) (t.is ∙ ap (λ vs. t.front ++ vs) c.is ∙ sym (append_assoc t.front (c.sign ∷ []) rest));
-      form = grouped t.front o c.sign refl t.form c.kind_is
+      form = grouped t.front o c.sign refl t.form c.kind_is;
     }
 atom_form s read good n b (token k w p ∷ us) rest x e = unlike p x rest e
 
@@ -127,7 +127,7 @@ atoms_form s read good n b (suc k) f ts rest x e = at (λ g us d. atoms_form s r
         record {
           atoms = t.front ++ r.atoms;
           is = t.is ∙ ap (λ vs. t.front ++ vs) r.is ∙ sym (append_assoc t.front r.atoms rest);
-          form = λ d h. subst AreAtoms (append_assoc d t.front r.atoms) (r.form (d ++ t.front) (further d t.front h t.form))
+          form = λ d h. subst AreAtoms (append_assoc d t.front r.atoms) (r.form (d ++ t.front) (further d t.front h t.form));
         }
 
 application_form : (s : Signature) (read : Reader) → TermsByGrammar read → (n : ℕ) (b : Scope) (ts rest : List Token) (x : Operand) → application_at s read n b ts ≡ got x rest → Splits AreAtoms ts rest
@@ -147,7 +147,7 @@ right_form s read good n b k w p joined ts l us rest x q h i e =
     record {
       front = l ++ z ∷ r.front;
       is = i ∙ ap (λ vs. l ++ z ∷ vs) (r.is ∙ ap (λ vs. r.front ++ vs) (got_rest (joined a.value) x a.middle rest a.next)) ∙ sym (append_assoc l (z ∷ r.front) rest);
-      form = an_infix l r.front z h q r.form
+      form = an_infix l r.front z h q r.form;
     }
 
 alone : (a x : Operand) (ts l mid rest : List Token) → AreAtoms l → ts ≡ l ++ mid → got a mid ≡ got x rest → Splits IsTerm ts rest
@@ -208,16 +208,25 @@ binder_form s read good n b ts rest v e =
     let u = good scope d.middle g.middle g.value g.was in
     let end = got_rest _ v g.middle rest g.next in
     record {
-      type = t.type; body = u.front; name = x.name; sign = t.sign; point = o.sign;
-      name_is = x.kind_is; undotted = x.undotted; sign_is = t.kind_is; type_is = t.form; point_is = o.kind_is; body_is = u.form;
-      is = x.is ∙ ap (λ vs. x.name ∷ vs) (t.is ∙ ap (λ vs. t.sign ∷ (t.type ++ vs)) (o.is ∙ ap (λ vs. o.sign ∷ vs) (u.is ∙ ap (λ vs. u.front ++ vs) end)) ∙ ap (λ vs. t.sign ∷ vs) (sym (append_assoc t.type (o.sign ∷ u.front) rest)))
+      type = t.type;
+      body = u.front;
+      name = x.name;
+      sign = t.sign;
+      point = o.sign;
+      name_is = x.kind_is;
+      undotted = x.undotted;
+      sign_is = t.kind_is;
+      type_is = t.form;
+      point_is = o.kind_is;
+      body_is = u.form;
+      is = x.is ∙ ap (λ vs. x.name ∷ vs) (t.is ∙ ap (λ vs. t.sign ∷ (t.type ++ vs)) (o.is ∙ ap (λ vs. o.sign ∷ vs) (u.is ∙ ap (λ vs. u.front ++ vs) end)) ∙ ap (λ vs. t.sign ∷ vs) (sym (append_assoc t.type (o.sign ∷ u.front) rest)));
     }
 
 bound_term : (k : Kind) (w : Name) (p : ℕ) (us rest : List Token) → IsBinderSign k → BinderParts us rest → Splits IsTerm (token k w p ∷ us) rest
 bound_term k w p us rest q c = record {
   front = token k w p ∷ c.name ∷ c.sign ∷ (c.type ++ c.point ∷ c.body);
   is = ap (λ vs. token k w p ∷ vs) c.is;
-  form = a_binder c.type c.body (token k w p) c.name c.sign c.point q c.name_is c.undotted c.sign_is c.type_is c.point_is c.body_is
+  form = a_binder c.type c.body (token k w p) c.name c.sign c.point q c.name_is c.undotted c.sign_is c.type_is c.point_is c.body_is;
 }
 
 plain_form : (s : Signature) (read : Reader) → TermsByGrammar read → (n : ℕ) (b : Scope) (ts rest : List Token) (x : Operand)

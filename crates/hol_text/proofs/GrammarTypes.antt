@@ -26,8 +26,10 @@ unlike {A} {C} p v ts e = absurd (apart e)
     is_stop : Front A → Bool
     is_stop (stop p) = true
     is_stop (got x us) = false
+
     differ : true ≡ false → ⊥
     differ e = cc
+
     apart : stop p ≡ got v ts → ⊥
     apart e = differ (ap is_stop e)
 
@@ -62,7 +64,7 @@ postfix_names s t (token a_name w p ∷ ts) rest m e =
     record {
       names = token a_name w p ∷ n.names;
       is = ap (λ us. token a_name w p ∷ us) n.is;
-      form = λ d h. subst IsDomain (append_assoc d (token a_name w p ∷ []) n.names) (n.form (d ++ token a_name w p ∷ []) (of_one d (token a_name w p) h refl))
+      form = λ d h. subst IsDomain (append_assoc d (token a_name w p ∷ []) n.names) (n.form (d ++ token a_name w p ∷ []) (of_one d (token a_name w p) h refl));
     }
 postfix_names s t (token k w p ∷ ts) rest m e = no_names t m (token k w p ∷ ts) rest e
 
@@ -126,7 +128,7 @@ group_form s read good n t o ho us f (token comma w p ∷ vs) rest m i h e =
     let ts = types_form read good n (with_one (given []) t) vs a.middle a.value a.was in
     let c = paren_closes a.value b.value a.middle b.middle a.next in
     tuple_form s b.value o x c.sign f ts.front (o ∷ us) b.middle rest m ho h refl ts.form c.kind_is
-      (ap (λ y. o ∷ y) (i ∙ ap (λ y. f ++ x ∷ y) (ts.is ∙ ap (λ y. ts.front ++ y) c.is))) b.next
+    (ap (λ y. o ∷ y) (i ∙ ap (λ y. f ++ x ∷ y) (ts.is ∙ ap (λ y. ts.front ++ y) c.is))) b.next
 group_form s read good n t o ho us f (token k w p ∷ vs) rest m i h e = unlike p m rest e
 
 pub domain_form : (s : Signature) (read : List Token → Front (Meaning Ty)) → ByGrammar read → (n : ℕ) (ts rest : List Token) (m : Meaning Ty) → dtype_at s read n ts ≡ got m rest → Splits IsDomain ts rest
@@ -150,7 +152,7 @@ range_form s read good dom ts d (token arrow w p ∷ us) rest m i h e =
     record {
       front = d ++ x ∷ t.front;
       is = i ∙ ap (λ vs. d ++ x ∷ vs) (t.is ∙ ap (λ vs. t.front ++ vs) (got_rest (function s p dom b.value) m b.middle rest b.next)) ∙ sym (append_assoc d (x ∷ t.front) rest);
-      form = a_function d t.front x h refl t.form
+      form = a_function d t.front x h refl t.form;
     }
 range_form s read good dom ts d (token k w p ∷ us) rest m i h e = record { front = d; is = i ∙ ap (λ us. d ++ us) (got_rest dom m (token k w p ∷ us) rest e); form = a_domain d h }
 

@@ -3,6 +3,7 @@ pub mod ClosedTerms
 pub mod Examples
 pub mod Fits
 pub mod GrammarTerms
+pub mod GrammarTexts
 pub mod GrammarTypes
 pub mod Lexing
 pub mod PrintLemmas

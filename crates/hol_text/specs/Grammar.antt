@@ -64,3 +64,9 @@ mutual
     at_types : (ts : List Token) (n o c : Token) → Is a_name n → Is open_brace o → AreTypes ts → Is close_brace c → IsAtom (n ∷ o ∷ (ts ++ c ∷ []))
     free : (t : List Token) (o n x c : Token) → Is open_bracket o → Is a_name n → Is colon x → IsType t → Is close_bracket c → IsAtom (o ∷ n ∷ x ∷ (t ++ c ∷ []))
     grouped : (t : List Token) (o c : Token) → Is open_paren o → IsTerm t → Is close_paren c → IsAtom (o ∷ (t ++ c ∷ []))
+
+-- the tokens before the end of the text
+abbrev pub before_end : List Token → List Token
+before_end [] = []
+before_end (token the_end w p ∷ ts) = []
+before_end (token k w p ∷ ts) = token k w p ∷ before_end ts
