@@ -2,6 +2,7 @@ pub mod Characters
 pub mod ClosedTerms
 pub mod Examples
 pub mod Fits
+pub mod GrammarCounts
 pub mod GrammarTerms
 pub mod GrammarTexts
 pub mod GrammarTypes

@@ -42,3 +42,9 @@ pub fn types_are_by_the_grammar()
 pub fn terms_are_by_the_grammar()
     ensures { (s : Signature) (t : Text) → ((p : ℕ) → reading_of_term s t ≢ no_syntax p) → IsTerm (before_end (tokens t)) }
 {}
+
+/// For a check of the lemmas.
+#[tactic(auto, using(crate::proofs::GrammarCounts::tokens_short))]
+pub fn grammar_law() -> u8 {
+    1
+}
