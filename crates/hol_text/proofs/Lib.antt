@@ -6,6 +6,7 @@ pub mod GrammarCounts
 pub mod GrammarTerms
 pub mod GrammarTexts
 pub mod GrammarTypes
+pub mod GrammarTypesRead
 pub mod Lexing
 pub mod PrintLemmas
 pub mod ReadBack

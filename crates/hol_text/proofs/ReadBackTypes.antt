@@ -60,7 +60,7 @@ rest_close_paren r = record { ends = ends_sign 41 r refl refl; closed = λ q. rw
 pub rest_comma : (r : Text) → Rest (codes "," ++ r)
 rest_comma r = record { ends = ends_sign 44 r refl refl; closed = λ q. rw at_comma refl }
 
-postfix_stops : (s : Signature) (t : Meaning Ty) (ts : List Token) → closes (head_kind ts) ≡ true → postfix s t ts ≡ got t ts
+pub postfix_stops : (s : Signature) (t : Meaning Ty) (ts : List Token) → closes (head_kind ts) ≡ true → postfix s t ts ≡ got t ts
 postfix_stops s t [] h = refl
 postfix_stops s t (token k w p ∷ ts) h = at k h
   where
@@ -68,7 +68,7 @@ postfix_stops s t (token k w p ∷ ts) h = at k h
     at a_name g = cc
     at k g = refl
 
-range_stops : (k : Kind) (s : Signature) (read : List Token → Front (Meaning Ty)) (t : Meaning Ty) (ts : List Token) → closes k ≡ true → range_by k s read t ts ≡ got t ts
+pub range_stops : (k : Kind) (s : Signature) (read : List Token → Front (Meaning Ty)) (t : Meaning Ty) (ts : List Token) → closes k ≡ true → range_by k s read t ts ≡ got t ts
 range_stops arrow s read t ts h = cc
 range_stops k s read t ts h = refl
 
@@ -180,7 +180,7 @@ closes_list close_paren = true
 closes_list close_brace = true
 closes_list k = false
 
-more_stop : (k : Kind) (next : Arguments → List Token → Front Arguments) (args : Arguments) (ts : List Token) → closes_list k ≡ true → more_types k next args ts ≡ got args ts
+pub more_stop : (k : Kind) (next : Arguments → List Token → Front Arguments) (args : Arguments) (ts : List Token) → closes_list k ≡ true → more_types k next args ts ≡ got args ts
 more_stop comma next args ts h = cc
 more_stop k next args ts h = refl
 
