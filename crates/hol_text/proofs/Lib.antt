@@ -4,6 +4,7 @@ pub mod Examples
 pub mod Fits
 pub mod GrammarCounts
 pub mod GrammarTerms
+pub mod GrammarTermsRead
 pub mod GrammarTexts
 pub mod GrammarTypes
 pub mod GrammarTypesRead

@@ -108,7 +108,7 @@ fits_in s bound f x o =
     let b = opened_type s [] bound x o.1 in
     same_ty-from (tm_type (in_scope bound f)) (fun_ty (tm_type (in_scope bound x)) (range_ty (tm_type (in_scope bound f)))) (a ∙ o.2 ∙ (λ i. fun_ty (sym b i) (range_ty (sym a i))))
 
-atoms_more : (read : List Token → Front Operand) (k : ℕ) (f : Operand) (ts : List Token) → begins_atom (head_kind ts) ≡ true → atoms_at read (suc k) f ts ≡ (read ts >>= (λ x rest. atoms_at read k (apply f x) rest))
+pub atoms_more : (read : List Token → Front Operand) (k : ℕ) (f : Operand) (ts : List Token) → begins_atom (head_kind ts) ≡ true → atoms_at read (suc k) f ts ≡ (read ts >>= (λ x rest. atoms_at read k (apply f x) rest))
 unfolding atoms_at
 atoms_more read k f ts h = ap (λ b. atoms_by b read (atoms_at read k) f ts) h
 

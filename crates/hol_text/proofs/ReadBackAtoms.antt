@@ -53,7 +53,7 @@ closed_paren r = record { follows = record { ends = ends_sign 41 r refl refl; un
 pub closed_end : Closed []
 closed_end = record { follows = record { ends = ends_text; unbraced = λ q. rw at_end refl }; closed = λ q. rw at_end refl }
 
-unbraced_from : (k : Kind) → begins_atom k ≡ true → is_brace k ≡ false
+pub unbraced_from : (k : Kind) → begins_atom k ≡ true → is_brace k ≡ false
 unbraced_from open_brace h = cc
 unbraced_from k h = refl
 
@@ -86,7 +86,7 @@ pub record Goes (s : Signature) (bound : List Ty) (n : ℕ) (x : Front Operand) 
   pub enough : n < left + len
   pub is : x ≡ atoms_at (atom_at s (term_at s n) n (scope bound)) left (operand (means m) first) (tokens_from place r)
 
-atoms_stop : (read : List Token → Front Operand) (k : ℕ) (f : Operand) (ts : List Token) → 0 < k → begins_atom (head_kind ts) ≡ false → atoms_at read k f ts ≡ got f ts
+pub atoms_stop : (read : List Token → Front Operand) (k : ℕ) (f : Operand) (ts : List Token) → 0 < k → begins_atom (head_kind ts) ≡ false → atoms_at read k f ts ≡ got f ts
 unfolding atoms_at
 atoms_stop read zero f ts h e = absurd (omega arith)
 atoms_stop read (suc k) f ts h e = ap (λ b. atoms_by b read (atoms_at read k) f ts) e

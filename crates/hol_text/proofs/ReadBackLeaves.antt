@@ -26,7 +26,7 @@ use Rattle.hol_text.proofs.ReadBackAtoms.{text_at, in_scope, is_brace, Follows, 
 
 -- ---- names
 
-name_plain : (k : Kind) (s : Signature) (n : ℕ) (b : Scope) (c : Name) (p : ℕ) (ts : List Token) → is_brace k ≡ false → name_by k s n b c p ts ≡ got (operand (plain_by (innermost b c) s c p) p) ts
+pub name_plain : (k : Kind) (s : Signature) (n : ℕ) (b : Scope) (c : Name) (p : ℕ) (ts : List Token) → is_brace k ≡ false → name_by k s n b c p ts ≡ got (operand (plain_by (innermost b c) s c p) p) ts
 name_plain open_brace s n b c p ts h = cc
 name_plain k s n b c p ts h = refl
 

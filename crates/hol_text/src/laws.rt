@@ -44,7 +44,7 @@ pub fn terms_are_by_the_grammar()
 {}
 
 /// For a check of the lemmas.
-#[tactic(auto, using(crate::proofs::GrammarTypesRead::type_read))]
+#[tactic(auto, using(crate::proofs::GrammarTermsRead::term_read))]
 pub fn grammar_law() -> u8 {
     1
 }
