@@ -37,7 +37,7 @@ runs_on s n b x a rest len r l p h g = at r.left r.enough r.is
       value = apply r.value g.value;
       left = left;
       enough = omega (arith, m, p);
-      is = e ∙ atoms_more (atom_at s (term_at s n) n b) left r.value (a ++ rest) h ∙ ap (λ y. y >>= (λ z mid. atoms_at (atom_at s (term_at s n) n b) left (apply r.value z) mid)) g.is
+      is = e ∙ atoms_more (atom_at s (term_at s n) n b) left r.value (a ++ rest) h ∙ ap (λ y. y >>= (λ z mid. atoms_at (atom_at s (term_at s n) n b) left (apply r.value z) mid)) g.is;
     }
 
 atom_long : (a : List Token) → IsAtom a → 0 < length a
@@ -99,13 +99,14 @@ types_apart a x rest = append_assoc a (x ∷ []) rest
 
 mutual
   unfolding atom_at application_at term_at braces_at bound_at binder_at body_at
+
   atom_read : (s : Signature) (a : List Token) → IsAtom a → (n : ℕ) (b : Scope) (rest : List Token) → length a ≤ n → is_brace (head_kind rest) ≡ false → Got (atom_at s (term_at s n) n b (a ++ rest)) rest
   atom_read s _ (bare x e) n b rest l u =
       let c = head_text (x ∷ rest) in
       let p = head_place (x ∷ rest) in
       record {
         value = operand (plain_by (innermost b c) s c p) p;
-        is = ap (λ k. atom_by k s (term_at s n) n b (x ∷ rest)) (head_is a_name x rest e) ∙ name_plain (head_kind rest) s n b c p rest u
+        is = ap (λ k. atom_by k s (term_at s n) n b (x ∷ rest)) (head_is a_name x rest e) ∙ name_plain (head_kind rest) s n b c p rest u;
       }
   atom_read s _ (at_types ts x o c e f h g) n b rest l u =
       let us = ts ++ (c ∷ rest) in
@@ -119,7 +120,7 @@ mutual
             ∙ ap (λ k. atom_by k s (term_at s n) n b (x ∷ o ∷ us)) (head_is a_name x (o ∷ us) e)
             ∙ ap (λ k. name_by k s n b w p (o ∷ us)) (head_is open_brace o us f)
             ∙ ap (λ y. (y >>= (λ args mid. expect_by (is_close_brace (head_kind mid)) args mid)) >>= (λ args mid. got (operand (constant s w p args) p) mid)) a.is
-            ∙ ap (λ k. expect_by (is_close_brace k) a.value (c ∷ rest) >>= (λ args mid. got (operand (constant s w p args) p) mid)) (head_is close_brace c rest g)
+            ∙ ap (λ k. expect_by (is_close_brace k) a.value (c ∷ rest) >>= (λ args mid. got (operand (constant s w p args) p) mid)) (head_is close_brace c rest g);
       }
   atom_read s _ (free t o x z c e f g h i) n b rest l u =
       let us = z ∷ (t ++ (c ∷ rest)) in
@@ -132,7 +133,7 @@ mutual
             ∙ ap (λ k. atom_by k s (term_at s n) n b (o ∷ x ∷ us)) (head_is open_bracket o (x ∷ us) e)
             ∙ ap (λ k. free_by (is_name_token k) s n p (x ∷ us)) (head_is a_name x us f)
             ∙ ap (λ y. y >>= (λ t mid. expect_by (is_close_bracket (head_kind mid)) (operand (free_of w t) p) mid)) a.is
-            ∙ ap (λ k. expect_by (is_close_bracket k) (operand (free_of w a.value) p) (c ∷ rest)) (head_is close_bracket c rest i)
+            ∙ ap (λ k. expect_by (is_close_bracket k) (operand (free_of w a.value) p) (c ∷ rest)) (head_is close_bracket c rest i);
       }
   atom_read s _ (grouped t o c e h g) n b rest l u =
       let a = term_read s t h n b (c ∷ rest) (omega (arith, length-append t (c ∷ []), l)) (ap closes_term (head_is close_paren c rest g)) in
@@ -141,7 +142,7 @@ mutual
         is = ap (λ vs. atom_at s (term_at s n) n b (o ∷ vs)) (types_apart t c rest)
             ∙ ap (λ k. atom_by k s (term_at s n) n b (o ∷ (t ++ (c ∷ rest)))) (head_is open_paren o (t ++ (c ∷ rest)) e)
             ∙ ap (λ y. y >>= (λ t mid. expect_by (is_close_paren (head_kind mid)) t mid)) a.is
-            ∙ ap (λ k. expect_by (is_close_paren k) a.value (c ∷ rest)) (head_is close_paren c rest g)
+            ∙ ap (λ k. expect_by (is_close_paren k) a.value (c ∷ rest)) (head_is close_paren c rest g);
       }
 
   atoms_read : (s : Signature) (a : List Token) → AreAtoms a → (n : ℕ) (b : Scope) (rest : List Token) → length a ≤ n → is_brace (head_kind rest) ≡ false → Runs s n b (application_at s (term_at s n) n b (a ++ rest)) rest (length a)
@@ -175,19 +176,19 @@ mutual
             ∙ ap (λ e. bound_by true e (m ∷ c ∷ us) >>= (λ x rest. typed_at s n rest >>= (λ t after. expect_by (is_dot (head_kind after)) t after >>= body_at read b x))) (ap is_dotted (head_word m (c ∷ us)) ∙ hu)
             ∙ ap (λ y. y >>= (λ t after. expect_by (is_dot (head_kind after)) t after >>= body_at read b v)) a.is
             ∙ ap (λ k. expect_by (is_dot k) a.value (o ∷ body) >>= body_at read b v) (head_is dot o body ho)
-            ∙ ap (λ y. y >>= (λ w mid. got (a.value, made w) mid)) g.is
+            ∙ ap (λ y. y >>= (λ w mid. got (a.value, made w) mid)) g.is;
       } in
       let whole = sign_read (kind x) hx s read n b (x ∷ m ∷ c ∷ us) rest binder in
       record {
         value = whole.value;
-        is = ap (λ vs. term_at s (suc n) b (x ∷ m ∷ c ∷ vs)) (append_assoc t (o ∷ d) rest) ∙ ap (λ k. term_by k s read n b (x ∷ m ∷ c ∷ us)) (head_is (kind x) x (m ∷ c ∷ us) refl) ∙ whole.is
+        is = ap (λ vs. term_at s (suc n) b (x ∷ m ∷ c ∷ vs)) (append_assoc t (o ∷ d) rest) ∙ ap (λ k. term_by k s read n b (x ∷ m ∷ c ∷ us)) (head_is (kind x) x (m ∷ c ∷ us) refl) ∙ whole.is;
       }
   term_read s _ (a_negation a x e h) (suc n) b rest l z =
       let r = atoms_read s a h n b rest (omega (arith, l)) (closes_unbraced (head_kind rest) z) in
       let g = runs_out s n b (application_at s (term_at s n) n b (a ++ rest)) rest (length a) r (omega (arith, l)) (no_atom (head_kind rest) z) in
       record {
         value = negation s (head_place (x ∷ (a ++ rest))) g.value;
-        is = ap (λ k. term_by k s (term_at s n) n b (x ∷ (a ++ rest))) (head_is not_sign x (a ++ rest) e) ∙ ap (λ y. y >>= (λ w mid. got (negation s (head_place (x ∷ (a ++ rest))) w) mid)) g.is
+        is = ap (λ k. term_by k s (term_at s n) n b (x ∷ (a ++ rest))) (head_is not_sign x (a ++ rest) e) ∙ ap (λ y. y >>= (λ w mid. got (negation s (head_place (x ∷ (a ++ rest))) w) mid)) g.is;
       }
   term_read s _ (an_application a h) (suc n) b rest l z =
       let r = atoms_read s a h n b rest (omega (arith, l)) (closes_unbraced (head_kind rest) z) in
@@ -197,7 +198,7 @@ mutual
         value = g.value;
         is = by_atom (head_kind (a ++ rest)) s (term_at s n) n b (a ++ rest) (atoms_begin a h rest)
             ∙ ap (λ y. y >>= (λ w mid. infix_by (head_kind mid) s app w mid)) g.is
-            ∙ infix_stop (head_kind rest) s app g.value rest z
+            ∙ infix_stop (head_kind rest) s app g.value rest z;
       }
   term_read s _ (an_infix a d x h q g) (suc n) b rest l z =
       let sum = length-append a (x ∷ d) in
@@ -215,5 +216,5 @@ mutual
             ∙ by_atom (head_kind (a ++ (x ∷ us))) s (term_at s n) n b (a ++ (x ∷ us)) (atoms_begin a h (x ∷ us))
             ∙ ap (λ y. y >>= (λ w mid. infix_by (head_kind mid) s app w mid)) left.is
             ∙ ap (λ k. infix_by k s app left.value (x ∷ us)) sign
-            ∙ whole.is
+            ∙ whole.is;
       }

@@ -30,6 +30,7 @@ postfix_arrow s t x ts e = ap (λ k. postfix_by k s t (x ∷ ts) (λ u. postfix 
 
 mutual
   unfolding dtype_at type_at types_at
+
   domain_read : (s : Signature) (d : List Token) → IsDomain d → (n : ℕ) (rest : List Token) → length d ≤ n → Part s (dtype_at s (type_at s n) n (d ++ rest)) rest
   domain_read s _ (variable x e) n rest l = record { value = means (ty_var (head_text (x ∷ rest))); is = ap (λ k. dtype_by k s (type_at s n) n (x ∷ rest)) (head_is a_variable x rest e) }
   domain_read s _ (constructor x e) n rest l = record { value = applied s (head_text (x ∷ rest)) (head_place (x ∷ rest)) (given []); is = ap (λ k. dtype_by k s (type_at s n) n (x ∷ rest)) (head_is a_name x rest e) }
@@ -41,7 +42,7 @@ mutual
         is = ap (λ us. dtype_at s (type_at s n) n (o ∷ us)) (append_assoc t (c ∷ []) rest)
             ∙ ap (λ k. dtype_by k s (type_at s n) n (o ∷ (t ++ (c ∷ rest)))) (head_is open_paren o (t ++ (c ∷ rest)) e)
             ∙ ap (λ y. y >>= (λ u mid. group_by (head_kind mid) s (type_at s n) n u mid)) a.is
-            ∙ ap (λ k. group_by k s (type_at s n) n a.value (c ∷ rest)) (head_is close_paren c rest g)
+            ∙ ap (λ k. group_by k s (type_at s n) n a.value (c ∷ rest)) (head_is close_paren c rest g);
       }
   domain_read s _ (of_several t ts o x c w e h f hs g i) n rest l =
       let end = c ∷ w ∷ rest in
@@ -58,7 +59,7 @@ mutual
             ∙ ap (λ k. group_by k s (type_at s n) n a.value (x ∷ (ts ++ end))) (head_is comma x (ts ++ end) f)
             ∙ ap after b.is
             ∙ ap (λ k. expect_by (is_close_paren k) b.value end >>= tuple s) (head_is close_paren c (w ∷ rest) g)
-            ∙ ap (λ k. tuple_by (is_name_token k) s b.value (w ∷ rest)) (head_is a_name w rest i)
+            ∙ ap (λ k. tuple_by (is_name_token k) s b.value (w ∷ rest)) (head_is a_name w rest i);
       }
     where
       apart : (t : List Token) (x : Token) (ts : List Token) (c w : Token) (rest : List Token) → (t ++ x ∷ (ts ++ c ∷ w ∷ [])) ++ rest ≡ t ++ (x ∷ (ts ++ c ∷ w ∷ rest))
@@ -67,7 +68,7 @@ mutual
       let a = domain_read s d h n (w ∷ rest) (omega (arith, length-append d (w ∷ []), l)) in
       record {
         value = applied s (head_text (w ∷ rest)) (head_place (w ∷ rest)) (with_one (given []) a.value);
-        is = ap (dtype_at s (type_at s n) n) (append_assoc d (w ∷ []) rest) ∙ a.is ∙ postfix_name s a.value w rest e
+        is = ap (dtype_at s (type_at s n) n) (append_assoc d (w ∷ []) rest) ∙ a.is ∙ postfix_name s a.value w rest e;
       }
 
   pub type_read : (s : Signature) (t : List Token) → IsType t → (n : ℕ) (rest : List Token) → length t < n → closes (head_kind rest) ≡ true → Got (type_at s n (t ++ rest)) rest
@@ -76,7 +77,7 @@ mutual
       let a = domain_read s d h n rest (omega (arith, l)) in
       record {
         value = a.value;
-        is = ap (λ y. y >>= (λ dom mid. range_by (head_kind mid) s (type_at s n) dom mid)) (a.is ∙ postfix_stops s a.value rest c) ∙ range_stops (head_kind rest) s (type_at s n) a.value rest c
+        is = ap (λ y. y >>= (λ dom mid. range_by (head_kind mid) s (type_at s n) dom mid)) (a.is ∙ postfix_stops s a.value rest c) ∙ range_stops (head_kind rest) s (type_at s n) a.value rest c;
       }
   type_read s _ (a_function d r x h e g) (suc n) rest l c =
       let sum = length-append d (x ∷ r) in
@@ -87,7 +88,7 @@ mutual
         is = ap (type_at s (suc n)) (append_assoc d (x ∷ r) rest)
             ∙ ap (λ y. y >>= (λ dom mid. range_by (head_kind mid) s (type_at s n) dom mid)) (a.is ∙ postfix_arrow s a.value x (r ++ rest) e)
             ∙ ap (λ k. range_by k s (type_at s n) a.value (x ∷ (r ++ rest))) (head_is arrow x (r ++ rest) e)
-            ∙ ap (λ y. y >>= (λ ran mid. got (function s (head_place (x ∷ (r ++ rest))) a.value ran) mid)) b.is
+            ∙ ap (λ y. y >>= (λ ran mid. got (function s (head_place (x ∷ (r ++ rest))) a.value ran) mid)) b.is;
       }
 
   pub types_read : (s : Signature) (ts : List Token) → AreTypes ts → (n k : ℕ) (args : Arguments) (rest : List Token) → length ts < n → length ts < k → closes (head_kind rest) ≡ true → closes_list (head_kind rest) ≡ true
@@ -97,7 +98,7 @@ mutual
       let a = type_read s t h n rest l c in
       record {
         value = with_one args a.value;
-        is = ap (λ y. y >>= (λ u mid. more_types (head_kind mid) (types_at (type_at s n) k) (with_one args u) mid)) a.is ∙ more_stop (head_kind rest) (types_at (type_at s n) k) (with_one args a.value) rest z
+        is = ap (λ y. y >>= (λ u mid. more_types (head_kind mid) (types_at (type_at s n) k) (with_one args u) mid)) a.is ∙ more_stop (head_kind rest) (types_at (type_at s n) k) (with_one args a.value) rest z;
       }
   types_read s _ (more t ts x h e g) n (suc k) args rest l m c z =
       let sum = length-append t (x ∷ ts) in
@@ -108,5 +109,5 @@ mutual
         is = ap (types_at (type_at s n) (suc k) args) (append_assoc t (x ∷ ts) rest)
             ∙ ap (λ y. y >>= (λ u mid. more_types (head_kind mid) (types_at (type_at s n) k) (with_one args u) mid)) a.is
             ∙ ap (λ j. more_types j (types_at (type_at s n) k) (with_one args a.value) (x ∷ (ts ++ rest))) (head_is comma x (ts ++ rest) e)
-            ∙ b.is
+            ∙ b.is;
       }

@@ -6,6 +6,7 @@ pub mod GrammarCounts
 pub mod GrammarTerms
 pub mod GrammarTermsRead
 pub mod GrammarTexts
+pub mod GrammarTextsRead
 pub mod GrammarTypes
 pub mod GrammarTypesRead
 pub mod Lexing

@@ -1,18 +1,18 @@
 -- The canonical text of a type reads as the type.
-use Rattle.std.proofs.Common.{◌≡◌, ◌⊎◌, inl, inr, ℕ, zero, suc, ◌+◌, ◌<◌, ◌≤◌, Bool, true, false, not, List, [], ◌∷◌, ◌++◌, length, length-append, append_assoc, Option, Some, None, cond, refl, ap, sym, ◌∙◌, subst, arith, eq-eqb}
+use Rattle.std.proofs.Common.{◌≡◌, ℕ, zero, suc, ◌+◌, ◌<◌, ◌≤◌, Bool, true, false, List, [], ◌∷◌, ◌++◌, length, length-append, append_assoc, Some, refl, ap, sym, ◌∙◌, arith, eq-eqb}
 use Rattle.std.specs.Prelude.{◌==◌, codes, bytes_eq}
 use Rattle.std.specs.List.{flat_map}
 use Rattle.std.proofs.lemmas.Slice.Eq.{bytes_eq-Decides}
 use Rattle.hol_terms.specs.Name.{Name, is_segment, is_name}
-use Rattle.hol_terms.specs.Ty.{Ty, ty_var, ty_app, Tys, no_tys, more_tys, tys, ty_list, tys-ty_list}
+use Rattle.hol_terms.specs.Ty.{Ty, ty_var, ty_app, Tys, no_tys, more_tys, ty_list, tys-ty_list}
 use Rattle.hol_terms.specs.Typing.{fun_name, fun_ty}
 use Rattle.hol_terms.specs.Signature.{Signature, arity_of, tys_count, IsTyOver, AreTysOver}
 use Rattle.hol_terms.specs.Text.{Text, parenthesized, with_commas, is_arrow, is_function, ty_text, tys_texts}
-use Rattle.hol_text.specs.Tokens.{Kind, a_name, a_variable, a_keyword, open_paren, close_paren, open_brace, close_brace, open_bracket, close_bracket, comma, colon, semicolon, dot, bar, equals, arrow, lambda_sign, all_sign, ex_sign, not_sign, and_sign, or_sign, implies_sign, the_end, no_token, Token, token, sign, head_kind, head_text, head_place, tail, tokens_from}
+use Rattle.hol_text.specs.Tokens.{Kind, a_name, close_paren, close_brace, close_bracket, comma, dot, arrow, the_end, Token, token, head_kind, tokens_from}
 use Rattle.hol_text.specs.Meaning.{Meaning, means, Arguments, given, with_one, is_count, applied_by, applied, function}
-use Rattle.hol_text.specs.Reading.{Front, got, stop, ◌>>=◌, expect_by, is_close_paren, is_name_token, postfix_by, postfix, more_types, types_at, tuple, tuple_by, group_by, dtype_by, dtype_at, range_by, type_at}
+use Rattle.hol_text.specs.Reading.{Front, got, ◌>>=◌, expect_by, is_close_paren, postfix_by, postfix, more_types, types_at, tuple, group_by, dtype_at, range_by, type_at}
 use Rattle.hol_text.specs.ReadsBack.{ReadsBack}
-use Rattle.hol_text.proofs.ReadBackTokens.{Ends, ends_text, ends_sign, ends_dot, at_blank, at_open_paren, at_close_paren, at_comma, at_arrow, at_name, at_variable}
+use Rattle.hol_text.proofs.ReadBackTokens.{Ends, ends_sign, at_blank, at_open_paren, at_close_paren, at_comma, at_arrow, at_name, at_variable}
 
 -- the names that a signature gives are names
 pub record HasNames (s : Signature) : Type 0 where

@@ -43,8 +43,12 @@ pub fn terms_are_by_the_grammar()
     ensures { (s : Signature) (t : Text) → ((p : ℕ) → reading_of_term s t ≢ no_syntax p) → IsTerm (before_end (tokens t)) }
 {}
 
-/// For a check of the lemmas.
-#[tactic(auto, using(crate::proofs::GrammarTermsRead::term_read))]
-pub fn grammar_law() -> u8 {
-    1
-}
+/// A text that is a type by the grammar is never refused for its syntax.
+pub fn types_of_the_grammar_are_read()
+    ensures { (s : Signature) (t : Text) → IsType (before_end (tokens t)) → (p : ℕ) → reading_of_type s t ≢ no_syntax p }
+{}
+
+/// A text that is a term by the grammar is never refused for its syntax.
+pub fn terms_of_the_grammar_are_read()
+    ensures { (s : Signature) (t : Text) → IsTerm (before_end (tokens t)) → (p : ℕ) → reading_of_term s t ≢ no_syntax p }
+{}
