@@ -2,6 +2,7 @@ pub mod Characters
 pub mod ClosedTerms
 pub mod Examples
 pub mod Fits
+pub mod GoodTokens
 pub mod Lexing
 pub mod TermSteps
 pub mod TypeSteps

@@ -4,6 +4,7 @@ pub mod Fitting
 pub mod LexerViews
 pub mod Meaning
 pub mod MeaningViews
+pub mod Over
 pub mod Reading
 pub mod Reads
 pub mod ScopeViews
