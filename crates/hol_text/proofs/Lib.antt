@@ -4,6 +4,7 @@ pub mod Examples
 pub mod Fits
 pub mod GoodTokens
 pub mod Lexing
+pub mod OverTypes
 pub mod TermSteps
 pub mod TypeSteps
 pub mod WholeTexts
