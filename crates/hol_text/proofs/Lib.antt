@@ -1,9 +1,11 @@
+pub mod Answered
 pub mod Characters
 pub mod ClosedTerms
 pub mod Examples
 pub mod Fits
 pub mod GoodTokens
 pub mod Lexing
+pub mod OverTerms
 pub mod OverTypes
 pub mod TermSteps
 pub mod TypeSteps

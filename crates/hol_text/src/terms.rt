@@ -124,7 +124,6 @@ fn named<'a>(
 }
 
 /// The free variable of the name at a type.
-#[tactic(auto, using(crate::proofs::OverTypes::over_lemmas))]
 fn free(alloc: Global, name: &str, ty: Meaning<HolType>) -> Result<Meaning<Term>, AllocError>
     ensures { IfOk result (λ m. meaning_of m ≡ free_of name.now (meaning_of ty)) }
 {
