@@ -1,5 +1,5 @@
 -- What was read is well formed and well typed.
-use Rattle.std.proofs.Common.{◌≡◌, List, [], ℕ, Result, Ok, Err, IfOk}
+use Rattle.std.proofs.Common.{List, [], ℕ, Result, Ok, Err, IfOk}
 use Rattle.std.specs.Str.{IsUtf8}
 use Rattle.hol_terms.specs.Ty.{Ty}
 use Rattle.hol_terms.specs.Tm.{Tm}

@@ -7,9 +7,9 @@ use Rattle.std.specs.declared.cmp.Ordering.{Ordering}
 use Rattle.std.specs.declared.cmp.Ordering.TheVariants.{Less, Equal, Greater}
 use Rattle.std.proofs.lemmas.Map.Text.{is_eq-slice_cmp}
 use Rattle.hol_terms.specs.Name.{Name}
-use Rattle.hol_terms.specs.Ty.{Ty, ty_var, ty_app, Tys, no_tys, more_tys, tys}
+use Rattle.hol_terms.specs.Ty.{Ty, ty_var, ty_app, no_tys, more_tys, tys}
 use Rattle.hol_terms.specs.Tm.{Tm}
-use Rattle.hol_terms.specs.Typing.{tm_type, fun_name, fun_ty, second_ty, range_ty}
+use Rattle.hol_terms.specs.Typing.{fun_name, fun_ty, second_ty, range_ty}
 use Rattle.hol_terms.specs.Takes.{Takes}
 use Rattle.hol_terms.specs.Subst.{name_cmp, ty_cmp, tys_cmp}
 use Rattle.hol_terms.specs.Rules.{same_ty, fits}

@@ -1,17 +1,17 @@
 -- The names and type variables among the tokens of a text are names and segments.
-use Rattle.std.proofs.Common.{◌≡◌, refl, sym, ap, ◌∙◌, subst, ℕ, ◌+◌, ◌==◌, Bool, true, false, not, ◌&&◌, ◌||◌, cond, List, [], ◌∷◌, ◌++◌, length, Option, Some, None, arith}
-use Rattle.std.specs.Prelude.{codes, bytes_eq}
-use Rattle.std.specs.Char.{encode_utf8, IsScalar}
+use Rattle.std.proofs.Common.{◌≡◌, refl, sym, ap, ◌∙◌, subst, ℕ, ◌==◌, Bool, true, false, not, ◌||◌, cond, List, [], ◌∷◌, ◌++◌, Option, Some, None, arith}
+use Rattle.std.specs.Prelude.{codes}
+use Rattle.std.specs.Char.{encode_utf8}
 use Rattle.std.specs.List.{list_all}
-use Rattle.std.specs.Str.{chars, is_utf8, IsUtf8}
-use Rattle.std.proofs.lemmas.Str.{chars-encodes, chars-append, IsUtf8-append, IsUtf8-from_is_utf8, is_utf8-from_IsUtf8, scalars-chars, IsUtf8-from_ascii, chars-IsAscii}
+use Rattle.std.specs.Str.{chars, IsUtf8}
+use Rattle.std.proofs.lemmas.Str.{chars-encodes, chars-append, IsUtf8-append, is_utf8-from_IsUtf8, scalars-chars, IsUtf8-from_ascii, chars-IsAscii}
 use Rattle.std.proofs.lemmas.Str.Ascii.{IsAscii-nil, IsAscii-cons}
-use Rattle.std.proofs.lemmas.Bool.{and_parts, and_from, or_left, or_right}
+use Rattle.std.proofs.lemmas.Bool.{and_parts, and_from, or_left}
 use Rattle.std.proofs.lemmas.List.{append-nil}
-use lib.Utf8.{scalar, scalars, encode, encodes}
+use lib.Utf8.{scalar, scalars, encodes}
 use Rattle.unicode_ident.specs.Ident.{is_xid_continue}
 use Rattle.hol_terms.specs.Name.{Name, is_start, is_segment_of, segment_step, on_step, are_segments_of, is_keyword, is_segment, is_name}
-use Rattle.hol_text.specs.Tokens.{Kind, a_name, a_variable, a_keyword, open_paren, close_paren, open_brace, close_brace, open_bracket, close_bracket, comma, colon, semicolon, dot, bar, equals, arrow, lambda_sign, all_sign, ex_sign, not_sign, and_sign, or_sign, implies_sign, the_end, no_token, Token, token, sign, word_kind, word, Class, blank, hash, quote, zero_name, letter, minus, equal, slash, backslash, other, starts, continues, class_of, symbol_of, Part, of_segment, of_dot, outside, part_of, State, between, comment, in_name, after_dot, after_quote, in_variable, after_minus, after_equal, after_equals, after_slash, after_backslash, Step, behind, begin_by, begin, name_by, dot_by, quote_by, variable_by, pair_by, equal_by, equals_by, comment_by, step, last, tokens_in, tokens}
+use Rattle.hol_text.specs.Tokens.{Kind, a_name, a_variable, open_paren, close_paren, open_brace, close_brace, open_bracket, close_bracket, comma, colon, semicolon, dot, bar, equals, arrow, lambda_sign, all_sign, ex_sign, not_sign, and_sign, or_sign, the_end, no_token, Token, token, sign, word_kind, word, Class, blank, hash, quote, zero_name, letter, minus, equal, slash, backslash, other, starts, continues, class_of, symbol_of, Part, of_segment, of_dot, outside, part_of, State, between, comment, in_name, after_dot, after_quote, in_variable, after_minus, after_equal, after_equals, after_slash, after_backslash, Step, behind, begin_by, begin, name_by, dot_by, quote_by, variable_by, pair_by, equal_by, equals_by, comment_by, step, last, tokens_in, tokens}
 use Rattle.hol_terms.proofs.AsciiNames.{is_name_from_ascii}
 use Rattle.hol_text.proofs.Characters.{starts-is, continues-is}
 
@@ -84,8 +84,8 @@ dotted-segments w c s h g =
     let o = one_char c s in
     let u = IsUtf8-append w (codes ".") g.utf8 point-utf8 in
     let e : chars ((w ++ codes ".") ++ encode_utf8 c) ≡ (chars w ++ 46 ∷ []) ++ c ∷ [] =
-        chars-append (w ++ codes ".") (encode_utf8 c) u ∙ ap (λ (x : List ℕ). chars (w ++ codes ".") ++ x) o.1
-        ∙ ap (λ (x : List ℕ). x ++ c ∷ []) (chars-append w (codes ".") g.utf8 ∙ ap (λ (x : List ℕ). chars w ++ x) point-chars) in
+    chars-append (w ++ codes ".") (encode_utf8 c) u ∙ ap (λ (x : List ℕ). chars (w ++ codes ".") ++ x) o.1
+    ∙ ap (λ (x : List ℕ). x ++ c ∷ []) (chars-append w (codes ".") g.utf8 ∙ ap (λ (x : List ℕ). chars w ++ x) point-chars) in
     record {
       utf8 = IsUtf8-append (w ++ codes ".") (encode_utf8 c) u o.0;
       joined = ap (are_segments_of false) (e ∙ regroup (chars w) c) ∙ joined-more false (chars w) (46 ∷ c ∷ []) (begins c h) g.joined;

@@ -1,31 +1,31 @@
 -- A term that is read is well typed over the signature, where the constants have types of the signature.
-use Rattle.std.proofs.Common.{◌≡◌, refl, sym, ap, ◌∙◌, subst, ℕ, zero, suc, ◌+◌, ◌==◌, Bool, true, false, ◌&&◌, ◌||◌, cond, List, [], ◌∷◌, ◌++◌, length, slice_get, Option, Some, None, eqb-true, add-one}
-use Rattle.std.specs.Prelude.{bytes_eq, codes}
+use Rattle.std.proofs.Common.{◌≡◌, refl, sym, ap, ◌∙◌, subst, ℕ, zero, suc, ◌==◌, Bool, true, false, ◌||◌, cond, List, [], ◌∷◌, ◌++◌, length, slice_get, Option, Some, None, eqb-true, add-one}
+use Rattle.std.specs.Prelude.{bytes_eq}
 use Rattle.std.specs.Ordering.{is_eq}
 use Rattle.std.specs.Str.{IsUtf8}
 use Rattle.std.proofs.lemmas.Bool.{and_from, or_left, or_right}
 use Rattle.std.proofs.lemmas.Map.Text.{is_eq-slice_cmp}
 use Rattle.hol_terms.specs.Name.{Name, is_name}
-use Rattle.hol_terms.specs.Ty.{Ty, ty_var, ty_app, Tys, tys}
+use Rattle.hol_terms.specs.Ty.{Ty, tys}
 use Rattle.hol_terms.specs.Tm.{Tm, tm_index, tm_free, tm_const, tm_comb, tm_abs, FreeVar}
 use Rattle.hol_terms.specs.Typing.{tm_type, range_ty, fun_ty, fun_name}
 use Rattle.hol_terms.specs.Signature.{Signature, arity_of, generic_of, IsTyOver, AreTysOver, IsConstOver, IsOver}
-use Rattle.hol_terms.specs.Subst.{name_cmp, ty_cmp, TySubst}
-use Rattle.hol_terms.specs.TyVars.{ty_vars, pairs_of, instance_at, const_at}
-use Rattle.hol_terms.specs.Binding.{tm_bind, var_cmp, var_eq}
+use Rattle.hol_terms.specs.Subst.{name_cmp, ty_cmp}
+use Rattle.hol_terms.specs.TyVars.{ty_vars, pairs_of, instance_at}
+use Rattle.hol_terms.specs.Binding.{tm_bind, var_eq}
 use Rattle.hol_terms.specs.Proves.{AreTypesOver}
-use Rattle.hol_terms.specs.Rules.{fits, lambda}
+use Rattle.hol_terms.specs.Rules.{fits}
 use Rattle.hol_terms.proofs.Order.{var_eq-same}
 use Rattle.hol_terms.proofs.KeptTypes.{tm_type-bind}
 use Rattle.hol_terms.proofs.InstLemmas.{slice_get-append}
 use Rattle.hol_terms.proofs.Tables.{same_bytes}
 use Rattle.hol_terms.proofs.TypeInst.{gives_over, IsTyOver-subst}
 use Rattle.hol_text.specs.Over.{GivesTypes}
-use Rattle.hol_text.specs.Tokens.{Kind, a_name, a_variable, a_keyword, open_paren, close_paren, open_brace, close_brace, open_bracket, close_bracket, comma, colon, semicolon, dot, bar, equals, arrow, lambda_sign, all_sign, ex_sign, not_sign, and_sign, or_sign, implies_sign, the_end, no_token, Token, token, head_kind, head_text, head_place, tail, tokens}
-use Rattle.hol_text.specs.Meaning.{Fault, unknown_at, ill_at, Meaning, means, fault, Arguments, given, faulty, count, with_one, constant_of, constant_by, constant, fitted, Operand, operand, apply, one_type, type_of, equation, connective, negation, abstraction, quantified}
-use Rattle.hol_text.specs.Reading.{Front, got, stop, ◌>>=◌, stop_at, expect_by, Scope, innermost, stand_in, type_or_none, plain_by, braces_at, name_by, free_of, free_by, type_at, types_at, typed_at, is_close_paren, is_close_brace, is_close_bracket, is_name_token, is_dot, is_dotted, Reader, atom_by, atom_at, begins_atom, atoms_by, atoms_at, application_at, infix_by, bound_by, bound_at, Binder, body_at, binder_at, term_by, term_at, Reading, reads, no_syntax, reading_of, ended, whole, only_meaning, reading_of_type, reading_of_term}
+use Rattle.hol_text.specs.Tokens.{Kind, a_name, open_paren, open_brace, open_bracket, equals, lambda_sign, all_sign, ex_sign, not_sign, and_sign, or_sign, implies_sign, the_end, Token, token, head_kind, head_text, head_place, tail, tokens}
+use Rattle.hol_text.specs.Meaning.{unknown_at, ill_at, Meaning, means, fault, Arguments, given, faulty, count, constant_of, constant_by, constant, fitted, Operand, operand, apply, type_of, equation, connective, negation, abstraction, quantified}
+use Rattle.hol_text.specs.Reading.{Front, got, stop, expect_by, Scope, innermost, stand_in, type_or_none, plain_by, braces_at, name_by, free_of, free_by, type_at, types_at, typed_at, is_close_paren, is_close_brace, is_close_bracket, is_name_token, is_dot, is_dotted, Reader, atom_by, atom_at, begins_atom, atoms_by, atoms_at, application_at, infix_by, bound_by, bound_at, Binder, body_at, binder_at, term_by, term_at, reads, ended, whole, only_meaning, reading_of_type, reading_of_term}
 use Rattle.hol_text.proofs.Fits.{eq-then, itself, takes_if}
-use Rattle.hol_text.proofs.GoodTokens.{IsGood, AreGood, tokens-good}
+use Rattle.hol_text.proofs.GoodTokens.{AreGood, tokens-good}
 use Rattle.hol_text.proofs.OverTypes.{Finds, bind_finds, tail-good, expect_finds, OverType, OverTypes, with_one-over, types-over, type-over, typed-over}
 
 -- ---- terms in a scope
@@ -291,8 +291,8 @@ unfolding binder_at
 binder-over s read n b ts r g =
     bind_finds Any (OverBinder s b) (bound_at ts) _ (bound-over ts g)
     (λ x rest i j. bind_finds (OverType s) (OverBinder s b) (typed_at s n rest) _ (typed-over s n rest j)
-      (λ t after h l. bind_finds (OverType s) (OverBinder s b) (expect_by (is_dot (head_kind after)) t after) (body_at read b x) (expect_finds (OverType s) (is_dot (head_kind after)) t after h l)
-        (λ u us m o. body-over s read b x u us r m o)))
+    (λ t after h l. bind_finds (OverType s) (OverBinder s b) (expect_by (is_dot (head_kind after)) t after) (body_at read b x) (expect_finds (OverType s) (is_dot (head_kind after)) t after h l)
+    (λ u us m o. body-over s read b x u us r m o)))
 
 term-step : (q : Kind) (s : Signature) (read : Reader) (n : ℕ) (b : Scope) (ts : List Token) → GivesTypes s → IsOverReader s read → AreGood ts → Finds (OverOperand s b) (term_by q s read n b ts)
 term-step lambda_sign s read n b ts k r g = bind_finds (OverBinder s b) (OverOperand s b) (binder_at s read n b (tail ts)) _ (binder-over s read n b (tail ts) r (tail-good ts g)) (λ x rest i j. (i.1, j))

@@ -1,13 +1,13 @@
 -- A type that is read is well formed over the signature.
-use Rattle.std.proofs.Common.{◌≡◌, refl, sym, ap, ◌∙◌, ℕ, zero, suc, ◌==◌, Bool, true, false, List, [], ◌∷◌, ◌++◌, length, Option, Some, None, eqb-true}
+use Rattle.std.proofs.Common.{◌≡◌, refl, sym, ap, ◌∙◌, ℕ, zero, suc, Bool, true, false, List, [], ◌∷◌, ◌++◌, length, Option, Some, None, eqb-true}
 use Rattle.hol_terms.specs.Name.{Name}
-use Rattle.hol_terms.specs.Ty.{Ty, ty_var, ty_app, Tys, no_tys, more_tys, tys}
+use Rattle.hol_terms.specs.Ty.{Ty, ty_var, tys}
 use Rattle.hol_terms.specs.Typing.{fun_name}
 use Rattle.hol_terms.specs.Signature.{Signature, arity_of, tys_count, IsTyOver, AreTysOver}
-use Rattle.hol_text.specs.Tokens.{Kind, a_name, a_variable, a_keyword, open_paren, close_paren, open_brace, close_brace, open_bracket, close_bracket, comma, colon, semicolon, dot, bar, equals, arrow, lambda_sign, all_sign, ex_sign, not_sign, and_sign, or_sign, implies_sign, the_end, no_token, Token, token, head_kind, head_text, head_place, tail}
-use Rattle.hol_text.specs.Meaning.{Fault, Meaning, means, fault, Arguments, given, faulty, count, with_one, is_count, applied_by, applied, function}
-use Rattle.hol_text.specs.Reading.{Front, got, stop, ◌>>=◌, stop_at, expect_by, is_colon, is_name_token, is_close_paren, postfix_by, postfix, more_types, types_at, tuple_by, tuple, group_by, dtype_by, dtype_at, range_by, type_at, typed_by, typed_at}
-use Rattle.hol_text.proofs.GoodTokens.{IsGood, AreGood}
+use Rattle.hol_text.specs.Tokens.{Kind, a_name, a_variable, open_paren, close_paren, comma, arrow, Token, token, head_kind, head_text, head_place, tail}
+use Rattle.hol_text.specs.Meaning.{Meaning, means, fault, Arguments, given, faulty, with_one, is_count, applied_by, applied, function}
+use Rattle.hol_text.specs.Reading.{Front, got, stop, ◌>>=◌, expect_by, is_colon, is_name_token, is_close_paren, postfix_by, postfix, more_types, types_at, tuple_by, tuple, group_by, dtype_by, dtype_at, range_by, type_at, typed_by, typed_at}
+use Rattle.hol_text.proofs.GoodTokens.{AreGood}
 
 -- what holds of a value that is read, beside the tokens after it
 abbrev pub Finds : {A : Type 0} → (A → Type 0) → Front A → Type 0
@@ -107,7 +107,7 @@ group-over close_paren s read n t ts r h g = postfix-over s t (tail ts) h (tail-
 group-over comma s read n t ts r h g =
     bind_finds (OverTypes s) (OverType s) (types_at read n (with_one (given []) t) (tail ts) >>= (λ args rest. expect_by (is_close_paren (head_kind rest)) args rest)) (tuple s)
     (bind_finds (OverTypes s) (OverTypes s) (types_at read n (with_one (given []) t) (tail ts)) _ (types-over s read n (with_one (given []) t) (tail ts) r (with_one-over s (given []) t tt h) (tail-good ts g))
-      (λ args rest i j. expect_finds (OverTypes s) (is_close_paren (head_kind rest)) args rest i j))
+    (λ args rest i j. expect_finds (OverTypes s) (is_close_paren (head_kind rest)) args rest i j))
     (λ args rest i j. tuple-step (is_name_token (head_kind rest)) s args rest i j)
 group-over k s read n t ts r h g = tt
 
