@@ -1,7 +1,9 @@
+pub mod Answered
 pub mod Characters
 pub mod ClosedTerms
 pub mod Examples
 pub mod Fits
+pub mod GoodTokens
 pub mod GrammarCounts
 pub mod GrammarTerms
 pub mod GrammarTermsRead
@@ -10,6 +12,8 @@ pub mod GrammarTextsRead
 pub mod GrammarTypes
 pub mod GrammarTypesRead
 pub mod Lexing
+pub mod OverTerms
+pub mod OverTypes
 pub mod PrintLemmas
 pub mod ReadBack
 pub mod ReadBackApplications

@@ -5,6 +5,7 @@ pub mod Grammar
 pub mod LexerViews
 pub mod Meaning
 pub mod MeaningViews
+pub mod Over
 pub mod Printing
 pub mod Reading
 pub mod Reads
