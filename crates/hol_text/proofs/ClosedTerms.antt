@@ -1,16 +1,16 @@
 -- A term that is read has no loose index.
-use Rattle.std.proofs.Common.{◌≡◌, refl, sym, ap, ◌∙◌, subst, ℕ, zero, suc, ◌+◌, ◌==◌, Bool, true, false, List, [], ◌∷◌, ◌++◌, length, Option, Some, None, cond, arith}
+use Rattle.std.proofs.Common.{◌≡◌, subst, ℕ, zero, suc, ◌+◌, Bool, true, false, List, [], ◌∷◌, Option, Some, None, cond, arith}
 use Rattle.hol_terms.specs.Name.{Name}
-use Rattle.hol_terms.specs.Ty.{Ty, ty_var, ty_app, tys}
+use Rattle.hol_terms.specs.Ty.{Ty}
 use Rattle.hol_terms.specs.Tm.{Tm, tm_index, tm_free, tm_const, tm_comb, tm_abs, FreeVar}
 use Rattle.hol_terms.specs.Signature.{Signature}
 use Rattle.hol_terms.specs.Loose.{IsClosedAt}
-use Rattle.hol_terms.specs.Rules.{fits, lambda}
+use Rattle.hol_terms.specs.Rules.{fits}
 use Rattle.hol_terms.specs.Binding.{tm_bind, var_eq}
-use Rattle.hol_text.specs.Tokens.{Kind, a_name, a_variable, a_keyword, open_paren, close_paren, open_brace, close_brace, open_bracket, close_bracket, comma, colon, semicolon, dot, bar, equals, arrow, lambda_sign, all_sign, ex_sign, not_sign, and_sign, or_sign, implies_sign, the_end, no_token, Token, head_kind, head_text, head_place, tail}
-use Rattle.hol_text.specs.Meaning.{Fault, ill_at, Meaning, means, fault, Arguments, given, faulty, constant_of, constant_by, constant, fitted, Operand, operand, apply, one_type, type_of, equation, connective, negation, abstraction, quantified}
+use Rattle.hol_text.specs.Tokens.{Kind, a_name, open_paren, open_brace, open_bracket, equals, lambda_sign, all_sign, ex_sign, not_sign, and_sign, or_sign, implies_sign, Token, head_kind, head_text, head_place, tail}
+use Rattle.hol_text.specs.Meaning.{ill_at, Meaning, means, fault, Arguments, given, faulty, constant_of, constant_by, constant, fitted, Operand, operand, apply, equation, connective, negation, abstraction, quantified}
 use Rattle.hol_text.specs.Fitting.{IsClosedMeaning}
-use Rattle.hol_text.specs.Reading.{Front, got, stop, ◌>>=◌, stop_at, expect_by, Scope, innermost, stand_in, type_or_none, plain_by, braces_at, name_by, free_of, free_by, typed_at, is_close_paren, is_close_bracket, is_name_token, is_dot, Reader, atom_by, atom_at, begins_atom, atoms_by, atoms_at, application_at, infix_by, bound_at, Binder, body_at, binder_at, term_by, term_at}
+use Rattle.hol_text.specs.Reading.{Front, got, stop, ◌>>=◌, expect_by, Scope, innermost, stand_in, type_or_none, plain_by, braces_at, name_by, free_of, free_by, typed_at, is_close_paren, is_close_bracket, is_name_token, is_dot, Reader, atom_by, atom_at, begins_atom, atoms_by, atoms_at, application_at, infix_by, bound_at, Binder, body_at, binder_at, term_by, term_at}
 
 -- what holds of a value that is read
 abbrev Holds : {A : Type 0} → (A → Type 0) → Front A → Type 0

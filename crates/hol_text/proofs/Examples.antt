@@ -1,10 +1,10 @@
 -- Readings of some texts, which compute.
-use Rattle.std.proofs.Common.{◌≡◌, refl, ℕ, List, [], ◌∷◌, ◌++◌}
+use Rattle.std.proofs.Common.{◌≡◌, refl, [], ◌∷◌, ◌++◌}
 use Rattle.std.specs.Prelude.{codes}
 use Rattle.std.specs.Str.{chars}
 use lib.Utf8.{encode}
-use Rattle.hol_terms.specs.Ty.{Ty, ty_var, ty_app, tys, no_tys}
-use Rattle.hol_terms.specs.Tm.{Tm, tm_index, tm_free, tm_const, tm_comb, tm_abs, FreeVar}
+use Rattle.hol_terms.specs.Ty.{Ty, ty_app, no_tys}
+use Rattle.hol_terms.specs.Tm.{Tm, tm_index, tm_free, tm_const, tm_comb, tm_abs}
 use Rattle.hol_terms.specs.Typing.{fun_ty}
 use Rattle.hol_terms.specs.Definition.{start, bool_ty, eq_ty, alpha}
 use Rattle.hol_terms.specs.Signature.{Signature}
@@ -12,7 +12,7 @@ use Rattle.hol_terms.specs.Sequent.{eq_tm}
 use Rattle.hol_terms.specs.Rules.{same_ty}
 use Rattle.hol_text.specs.Tokens.{tokens}
 use Rattle.hol_text.specs.Meaning.{applied, function, constant, fitted, apply, equation, connective, negation, quantified}
-use Rattle.hol_text.specs.Reading.{types_at, dtype_at, type_at, typed_at, braces_at, atom_at, atoms_at, application_at, bound_at, body_at, binder_at, term_at, reading_of_type, reading_of_term, Reading, reads, no_syntax, unknown, ill_typed}
+use Rattle.hol_text.specs.Reading.{types_at, dtype_at, type_at, typed_at, braces_at, atom_at, atoms_at, application_at, bound_at, body_at, binder_at, term_at, reading_of_type, reading_of_term, reads, no_syntax, unknown, ill_typed}
 
 abbrev two_bools : Ty
 two_bools = fun_ty bool_ty (fun_ty bool_ty bool_ty)

@@ -7,9 +7,9 @@ use Rattle.std.specs.declared.cmp.Ordering.{Ordering}
 use Rattle.std.specs.declared.cmp.Ordering.TheVariants.{Less, Equal, Greater}
 use Rattle.std.proofs.lemmas.Map.Text.{is_eq-slice_cmp}
 use Rattle.hol_terms.specs.Name.{Name}
-use Rattle.hol_terms.specs.Ty.{Ty, ty_var, ty_app, Tys, no_tys, more_tys, tys}
+use Rattle.hol_terms.specs.Ty.{Ty, ty_var, ty_app, no_tys, more_tys, tys}
 use Rattle.hol_terms.specs.Tm.{Tm}
-use Rattle.hol_terms.specs.Typing.{tm_type, fun_name, fun_ty, second_ty, range_ty}
+use Rattle.hol_terms.specs.Typing.{fun_name, fun_ty, second_ty, range_ty}
 use Rattle.hol_terms.specs.Takes.{Takes}
 use Rattle.hol_terms.specs.Subst.{name_cmp, ty_cmp, tys_cmp}
 use Rattle.hol_terms.specs.Rules.{same_ty, fits}
@@ -17,7 +17,7 @@ use Rattle.hol_terms.proofs.Order.{is_eq-same, ty_cmp-same}
 use Rattle.hol_terms.proofs.TotalOrder.{ty_cmp_total}
 use Rattle.hol_text.specs.Fitting.{first_of_two}
 
-eq-then : (o p : Ordering) → is_eq (ordering_then o p) ≡ (is_eq o && is_eq p)
+pub eq-then : (o p : Ordering) → is_eq (ordering_then o p) ≡ (is_eq o && is_eq p)
 eq-then Less p = refl
 eq-then Equal p = refl
 eq-then Greater p = refl
@@ -30,7 +30,7 @@ and-true : (b : Bool) → (b && true) ≡ b
 and-true true = refl
 and-true false = refl
 
-itself : (b : Ty) → ty_cmp b b ≡ Equal
+pub itself : (b : Ty) → ty_cmp b b ≡ Equal
 itself b = tied_itself ty_cmp_total b
 
 two_are : (ts : List Ty) (d : Ty) → is_eq (tys_cmp (tys ts) (more_tys d (more_tys (second_ty (tys ts)) no_tys))) ≡ first_of_two ts d

@@ -1,10 +1,9 @@
 -- Tokens that are added one after the other.
-use Rattle.std.proofs.Common.{◌≡◌, refl, sym, ap, ◌∙◌, ℕ, List, [], ◌∷◌, ◌++◌, append_assoc}
+use Rattle.std.proofs.Common.{◌≡◌, refl, ap, ◌∙◌, ℕ, List, [], ◌∷◌, ◌++◌, append_assoc}
 use Rattle.std.proofs.Common.{◌+◌, length, length-append, arith}
-use Rattle.std.specs.Prelude.{map}
 use Rattle.std.specs.Char.{encode_utf8}
 use Rattle.std.specs.Str.{chars, IsUtf8}
-use Rattle.std.proofs.lemmas.Str.{chars_past_char, chars-nil, IsUtf8-past_char}
+use Rattle.std.proofs.lemmas.Str.{chars_past_char, chars-nil}
 use Rattle.hol_text.specs.Tokens as Lex
 use Rattle.hol_text.specs.Tokens.{the_end, sign, step, last, tokens_in}
 use Rattle.hol_text.specs.TokenViews.{token_of, tokens_of}

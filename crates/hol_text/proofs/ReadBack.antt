@@ -7,7 +7,7 @@ use Rattle.hol_terms.specs.Signature.{Signature, IsTyOver, IsOver}
 use Rattle.hol_terms.specs.Text.{ty_text, tm_text}
 use Rattle.hol_text.specs.Tokens.{head_kind, tokens_from, tokens}
 use Rattle.hol_text.specs.Meaning.{means}
-use Rattle.hol_text.specs.Reading.{type_at, term_at, Reading, reads, ended, whole, only_meaning, reading_of_type, reading_of_term}
+use Rattle.hol_text.specs.Reading.{type_at, term_at, reads, ended, whole, only_meaning, reading_of_type, reading_of_term}
 use Rattle.hol_text.specs.ReadsBack.{ReadsBack}
 use Rattle.hol_text.proofs.ReadBackTokens.{ends_text, no_more, at_end}
 use Rattle.hol_text.proofs.ReadBackTypes.{has_names, Rest, reads_type}

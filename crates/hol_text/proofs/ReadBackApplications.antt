@@ -1,19 +1,19 @@
 -- The canonical text of an application reads as it: operands, arguments, and terms around a sign.
-use Rattle.std.proofs.Common.{◌≡◌, ℕ, zero, suc, ◌+◌, ◌-◌, ◌<◌, ◌≤◌, Bool, true, false, not, List, [], ◌∷◌, ◌++◌, length, length-append, append_assoc, cond, refl, ap, sym, ◌∙◌, subst, arith}
+use Rattle.std.proofs.Common.{◌≡◌, ℕ, zero, suc, ◌+◌, ◌<◌, ◌≤◌, Bool, true, false, not, List, [], ◌++◌, length, length-append, append_assoc, refl, ap, sym, ◌∙◌, arith}
 use Rattle.std.specs.Prelude.{codes}
 use Rattle.hol_terms.specs.Ty.{Ty}
 use Rattle.hol_terms.specs.Tm.{Tm, tm_index, tm_free, tm_const, tm_comb, tm_abs}
 use Rattle.hol_terms.specs.Typing.{tm_type, fun_ty, range_ty}
-use Rattle.hol_terms.specs.Rules.{fits, same_ty}
+use Rattle.hol_terms.specs.Rules.{fits}
 use Rattle.hol_terms.specs.Signature.{Signature, IsOver}
-use Rattle.hol_terms.specs.Text.{Text, parenthesized, Sugar, sugar, none, is_sugar, whole_text, is_plain, is_atom, printed}
+use Rattle.hol_terms.specs.Text.{Text, parenthesized, sugar, none, is_plain, is_atom}
 use Rattle.hol_terms.proofs.Same.{same_ty-from}
-use Rattle.hol_text.specs.Tokens.{Kind, open_paren, close_paren, Token, token, sign, head_kind, head_place, tail, tokens_from}
-use Rattle.hol_text.specs.Meaning.{Meaning, means, fitted, Operand, operand, apply}
-use Rattle.hol_text.specs.Reading.{Front, got, stop, ◌>>=◌, expect_by, is_close_paren, atom_at, begins_atom, atoms_by, atoms_at, application_at, infix_by, term_by, term_at}
+use Rattle.hol_text.specs.Tokens.{Token, head_kind, tokens_from}
+use Rattle.hol_text.specs.Meaning.{means, fitted, Operand, operand, apply}
+use Rattle.hol_text.specs.Reading.{Front, ◌>>=◌, expect_by, is_close_paren, atom_at, begins_atom, atoms_by, atoms_at, application_at, term_at}
 use Rattle.hol_text.proofs.ReadBackTokens.{Ends, ends_sign, at_blank, at_open_paren, at_close_paren}
-use Rattle.hol_text.proofs.ReadBackBinders.{scope, opened, opened_type}
-use Rattle.hol_text.proofs.ReadBackAtoms.{text_at, in_scope, is_brace, Follows, follows_blank, closes_term, Closed, closed_paren, Gives, leads, Goes, stops, no_atom, ReadsTm, by_atom, infix_stop, plain_whole, atom_spine}
+use Rattle.hol_text.proofs.ReadBackBinders.{scope, opened_type}
+use Rattle.hol_text.proofs.ReadBackAtoms.{text_at, in_scope, Follows, follows_blank, closed_paren, Gives, leads, Goes, stops, ReadsTm, plain_whole, atom_spine}
 
 -- ---- parentheses
 
@@ -108,7 +108,7 @@ fits_in s bound f x o =
     let b = opened_type s [] bound x o.1 in
     same_ty-from (tm_type (in_scope bound f)) (fun_ty (tm_type (in_scope bound x)) (range_ty (tm_type (in_scope bound f)))) (a ∙ o.2 ∙ (λ i. fun_ty (sym b i) (range_ty (sym a i))))
 
-atoms_more : (read : List Token → Front Operand) (k : ℕ) (f : Operand) (ts : List Token) → begins_atom (head_kind ts) ≡ true → atoms_at read (suc k) f ts ≡ (read ts >>= (λ x rest. atoms_at read k (apply f x) rest))
+pub atoms_more : (read : List Token → Front Operand) (k : ℕ) (f : Operand) (ts : List Token) → begins_atom (head_kind ts) ≡ true → atoms_at read (suc k) f ts ≡ (read ts >>= (λ x rest. atoms_at read k (apply f x) rest))
 unfolding atoms_at
 atoms_more read k f ts h = ap (λ b. atoms_by b read (atoms_at read k) f ts) h
 

@@ -1,23 +1,15 @@
 -- The canonical text of variables, constants and applications reads as the term.
-use Rattle.std.proofs.Common.{◌≡◌, ℕ, zero, suc, ◌+◌, ◌-◌, ◌<◌, ◌≤◌, ◌^◌, Bool, true, false, not, List, [], ◌∷◌, ◌++◌, length, length-append, append_assoc, Option, Some, None, slice_get, cond, refl, ap, sym, ◌∙◌, subst, arith}
-use Rattle.std.specs.Prelude.{◌==◌, nat_lt, codes}
-use Rattle.std.proofs.lemmas.Bool.Decides.{nat_tests}
-use Rattle.hol_terms.specs.Name.{Name, is_name, is_numbered}
-use Rattle.hol_terms.specs.Ty.{Ty, Tys, no_tys, more_tys, tys, ty_list, ty_list-tys}
-use Rattle.hol_terms.specs.Tm.{Tm, tm_index, tm_free, tm_const, tm_comb, tm_abs, FreeVar}
-use Rattle.hol_terms.specs.Typing.{tm_type, fun_ty, range_ty}
-use Rattle.hol_terms.specs.TyVars.{ty_vars, const_at, instance_at}
-use Rattle.hol_terms.specs.Rules.{fits, same_ty}
-use Rattle.hol_terms.specs.Signature.{Signature, generic_of, tys_count, IsTyOver, AreTysOver, IsConstOver, IsOver}
-use Rattle.hol_terms.specs.Text.{Text, parenthesized, with_commas, with_arguments, ty_text, tys_texts, bound_text, sugar, none, is_plain, is_atom, printed}
-use Rattle.hol_terms.proofs.Same.{same_ty-from}
-use Rattle.hol_text.specs.Tokens.{Kind, a_name, a_variable, a_keyword, open_paren, close_paren, open_brace, close_brace, open_bracket, close_bracket, comma, colon, semicolon, dot, bar, equals, arrow, lambda_sign, all_sign, ex_sign, not_sign, and_sign, or_sign, implies_sign, the_end, no_token, Token, token, sign, head_kind, head_text, head_place, tail, tokens_from}
-use Rattle.hol_text.specs.Meaning.{Meaning, means, Arguments, given, count, constant_by, constant_of, constant, fitted, Operand, operand, apply}
-use Rattle.hol_text.specs.Reading.{Front, got, stop, ◌>>=◌, expect_by, is_colon, is_name_token, is_close_paren, is_close_brace, is_close_bracket, types_at, type_at, typed_by, typed_at, Scope, innermost, plain_by, braces_at, name_by, free_of, free_by, Reader, atom_by, atom_at, begins_atom, atoms_by, atoms_at, application_at, infix_by, term_by, term_at}
-use Rattle.hol_text.specs.ReadsBack.{ReadsBack}
-use Rattle.hol_text.proofs.ReadBackTokens.{Ends, ends_text, ends_sign, ends_dot, at_blank, at_open_paren, at_close_paren, at_open_brace, at_close_brace, at_open_bracket, at_close_bracket, at_colon, at_name, at_end}
-use Rattle.hol_text.proofs.ReadBackTypes.{HasNames, Comes, lead, follow, within, Rest, closes, closes_list, as_many, list_reads, reads_type, reads_types}
-use Rattle.hol_text.proofs.ReadBackBinders.{bound_name, scope, not_bound, standing, opened, Found, found, opened_type}
+use Rattle.std.proofs.Common.{◌≡◌, ℕ, zero, suc, ◌+◌, ◌<◌, ◌≤◌, Bool, true, false, List, [], ◌++◌, length, refl, ap, ◌∙◌, arith}
+use Rattle.std.specs.Prelude.{codes}
+use Rattle.hol_terms.specs.Ty.{Ty}
+use Rattle.hol_terms.specs.Tm.{Tm}
+use Rattle.hol_terms.specs.Signature.{Signature}
+use Rattle.hol_terms.specs.Text.{Text, is_plain, is_atom, printed}
+use Rattle.hol_text.specs.Tokens.{Kind, a_name, open_paren, close_paren, open_brace, open_bracket, the_end, Token, head_kind, tokens_from}
+use Rattle.hol_text.specs.Meaning.{means, Operand, operand}
+use Rattle.hol_text.specs.Reading.{Front, got, ◌>>=◌, Scope, Reader, atom_at, begins_atom, atoms_by, atoms_at, application_at, infix_by, term_by, term_at}
+use Rattle.hol_text.proofs.ReadBackTokens.{Ends, ends_text, ends_sign, at_blank, at_close_paren, at_end}
+use Rattle.hol_text.proofs.ReadBackBinders.{scope, opened}
 
 -- a term below binders of these types, as it is printed and as it is read
 abbrev pub text_at : List Ty → Tm → Text
@@ -53,7 +45,7 @@ closed_paren r = record { follows = record { ends = ends_sign 41 r refl refl; un
 pub closed_end : Closed []
 closed_end = record { follows = record { ends = ends_text; unbraced = λ q. rw at_end refl }; closed = λ q. rw at_end refl }
 
-unbraced_from : (k : Kind) → begins_atom k ≡ true → is_brace k ≡ false
+pub unbraced_from : (k : Kind) → begins_atom k ≡ true → is_brace k ≡ false
 unbraced_from open_brace h = cc
 unbraced_from k h = refl
 
@@ -86,7 +78,7 @@ pub record Goes (s : Signature) (bound : List Ty) (n : ℕ) (x : Front Operand) 
   pub enough : n < left + len
   pub is : x ≡ atoms_at (atom_at s (term_at s n) n (scope bound)) left (operand (means m) first) (tokens_from place r)
 
-atoms_stop : (read : List Token → Front Operand) (k : ℕ) (f : Operand) (ts : List Token) → 0 < k → begins_atom (head_kind ts) ≡ false → atoms_at read k f ts ≡ got f ts
+pub atoms_stop : (read : List Token → Front Operand) (k : ℕ) (f : Operand) (ts : List Token) → 0 < k → begins_atom (head_kind ts) ≡ false → atoms_at read k f ts ≡ got f ts
 unfolding atoms_at
 atoms_stop read zero f ts h e = absurd (omega arith)
 atoms_stop read (suc k) f ts h e = ap (λ b. atoms_by b read (atoms_at read k) f ts) e

@@ -1,5 +1,5 @@
 -- Bound variables: their numbered names, what they are read as, and that binding them again gives the index.
-use Rattle.std.proofs.Common.{◌≡◌, ◌≢◌, ℕ, zero, suc, ◌+◌, ◌-◌, ◌<◌, ◌≤◌, ◌^◌, Bool, true, false, not, ◌&&◌, ◌||◌, List, [], ◌∷◌, ◌++◌, length, Option, Some, None, slice_get, cond, nat_eq, refl, ap, sym, ◌∙◌, subst, add-one, arith}
+use Rattle.std.proofs.Common.{◌≡◌, ◌≢◌, ℕ, zero, suc, ◌+◌, ◌-◌, ◌<◌, ◌≤◌, ◌^◌, Bool, true, false, not, ◌&&◌, List, [], ◌∷◌, ◌++◌, length, Some, None, slice_get, cond, refl, ap, sym, ◌∙◌, subst, add-one, arith}
 use Rattle.std.specs.Prelude.{◌==◌, nat_lt, codes, bytes_eq}
 use Rattle.std.specs.List.{list_all, list_any}
 use Rattle.std.specs.Fmt.{decimal}
@@ -11,14 +11,13 @@ use Rattle.std.proofs.lemmas.Bool.Decides.{nat_tests}
 use Rattle.std.proofs.lemmas.Fmt.{decimal_is_IsNumeral, decimal_injective}
 use Rattle.std.proofs.lemmas.Slice.Eq.{bytes_eq-Decides}
 use Rattle.unicode_ident.proofs.IdentLemmas.{is_xid_start-ascii}
-use Rattle.hol_terms.specs.Name.{Name, is_start, on_step, are_segments_of, is_name, is_keyword, is_numbered}
+use Rattle.hol_terms.specs.Name.{Name, is_name, is_keyword, is_numbered}
 use Rattle.hol_terms.specs.Ty.{Ty}
 use Rattle.hol_terms.specs.Tm.{Tm, tm_index, tm_free, tm_const, tm_comb, tm_abs, FreeVar}
 use Rattle.hol_terms.specs.Typing.{tm_type, fun_ty, range_ty}
 use Rattle.hol_terms.specs.Binding.{tm_bind, var_eq}
-use Rattle.hol_terms.specs.Rules.{lambda}
 use Rattle.hol_terms.specs.Signature.{Signature, IsOver}
-use Rattle.hol_terms.specs.Text.{Text, bound_text}
+use Rattle.hol_terms.specs.Text.{bound_text}
 use Rattle.hol_terms.proofs.AsciiNames.{are_ascii_segments, is_ascii_more, is_name_from_ascii}
 use Rattle.hol_terms.proofs.Opened.{var_self}
 use Rattle.hol_terms.proofs.Order.{var_eq-same}

@@ -1,32 +1,28 @@
 -- The canonical text of a variable, a constant and an application reads as it.
-use Rattle.std.proofs.Common.{◌≡◌, ℕ, zero, suc, ◌+◌, ◌-◌, ◌<◌, ◌≤◌, ◌^◌, Bool, true, false, not, List, [], ◌∷◌, ◌++◌, length, length-append, append_assoc, Option, Some, None, slice_get, cond, refl, ap, sym, ◌∙◌, subst, arith}
+use Rattle.std.proofs.Common.{◌≡◌, ℕ, ◌+◌, ◌-◌, ◌<◌, ◌^◌, true, false, not, List, [], ◌∷◌, ◌++◌, length, length-append, append_assoc, Some, None, slice_get, refl, ap, sym, ◌∙◌, arith}
 use Rattle.std.specs.Prelude.{◌==◌, nat_lt, codes}
 use Rattle.std.specs.Prelude.{◌&&◌, ◌||◌, bytes_eq}
 use Rattle.std.specs.List.{flat_map}
 use Rattle.std.specs.Str.{chars, is_utf8}
 use Rattle.std.proofs.lemmas.Bool.{and_parts}
 use Rattle.std.proofs.lemmas.Bool.Decides.{nat_tests}
-use Rattle.hol_terms.specs.Name.{Name, is_name, is_numbered, is_keyword, are_segments_of}
-use Rattle.hol_terms.specs.Ty.{Ty, Tys, no_tys, more_tys, tys, ty_list, ty_list-tys}
-use Rattle.hol_terms.specs.Tm.{Tm, tm_index, tm_free, tm_const, tm_comb, tm_abs, FreeVar}
-use Rattle.hol_terms.specs.Typing.{tm_type, fun_ty, range_ty}
-use Rattle.hol_terms.specs.TyVars.{ty_vars, const_at, instance_at}
-use Rattle.hol_terms.specs.Rules.{fits, same_ty}
-use Rattle.hol_terms.specs.Signature.{Signature, generic_of, tys_count, IsTyOver, AreTysOver, IsConstOver, IsOver}
-use Rattle.hol_terms.specs.Text.{Text, parenthesized, with_commas, with_arguments, ty_text, tys_texts, bound_text, sugar, none, is_plain, is_atom, printed}
-use Rattle.hol_terms.proofs.Same.{same_ty-from}
-use Rattle.hol_text.specs.Tokens.{Kind, a_name, open_paren, close_paren, open_brace, close_brace, open_bracket, close_bracket, colon, Token, token, sign, head_kind, head_text, head_place, tail, tokens_from}
-use Rattle.hol_text.specs.Meaning.{Meaning, means, Arguments, given, count, constant_by, constant_of, constant, fitted, Operand, operand, apply}
-use Rattle.hol_text.specs.Reading.{Front, got, stop, ◌>>=◌, expect_by, is_close_paren, is_close_brace, is_close_bracket, types_at, type_at, typed_at, Scope, innermost, plain_by, braces_at, name_by, free_of, atom_at, begins_atom, atoms_by, atoms_at, application_at, term_at}
+use Rattle.hol_terms.specs.Name.{Name, is_name, is_keyword, are_segments_of}
+use Rattle.hol_terms.specs.Ty.{Ty, tys, ty_list, ty_list-tys}
+use Rattle.hol_terms.specs.Tm.{Tm, tm_index, tm_free, tm_const, FreeVar}
+use Rattle.hol_terms.specs.Signature.{Signature, tys_count, IsTyOver, AreTysOver, IsConstOver}
+use Rattle.hol_terms.specs.Text.{Text, with_commas, ty_text, tys_texts, bound_text}
+use Rattle.hol_text.specs.Tokens.{Kind, a_name, open_brace, open_bracket, Token, token, sign, head_kind, tokens_from}
+use Rattle.hol_text.specs.Meaning.{means, given, constant_by, constant_of, constant, operand}
+use Rattle.hol_text.specs.Reading.{got, ◌>>=◌, expect_by, is_close_brace, is_close_bracket, typed_at, Scope, innermost, plain_by, braces_at, name_by, free_of, atom_at, begins_atom, term_at}
 use Rattle.hol_text.specs.ReadsBack.{ReadsBack}
-use Rattle.hol_text.proofs.ReadBackTokens.{Ends, ends_text, ends_sign, at_blank, at_open_paren, at_close_paren, at_open_brace, at_close_brace, at_open_bracket, at_close_bracket, at_colon, at_name}
-use Rattle.hol_text.proofs.ReadBackTypes.{has_names, HasNames, Comes, lead, follow, within, Rest, as_many, commas_count, list_reads, reads_type, reads_types}
-use Rattle.hol_text.proofs.ReadBackBinders.{bound_name, scope, not_bound, standing, opened, Found, found, opened_type}
-use Rattle.hol_text.proofs.ReadBackAtoms.{text_at, in_scope, is_brace, Follows, follows_blank, Closed, closed_paren, Gives, leads, Goes, ReadsTm, plain_whole, atom_spine, atom_reads}
+use Rattle.hol_text.proofs.ReadBackTokens.{Ends, ends_sign, at_open_brace, at_close_brace, at_open_bracket, at_close_bracket, at_colon, at_name}
+use Rattle.hol_text.proofs.ReadBackTypes.{has_names, Rest, as_many, commas_count, list_reads, reads_type, reads_types}
+use Rattle.hol_text.proofs.ReadBackBinders.{bound_name, scope, not_bound, Found, found}
+use Rattle.hol_text.proofs.ReadBackAtoms.{in_scope, is_brace, Follows, Gives, leads, ReadsTm, atom_reads}
 
 -- ---- names
 
-name_plain : (k : Kind) (s : Signature) (n : ℕ) (b : Scope) (c : Name) (p : ℕ) (ts : List Token) → is_brace k ≡ false → name_by k s n b c p ts ≡ got (operand (plain_by (innermost b c) s c p) p) ts
+pub name_plain : (k : Kind) (s : Signature) (n : ℕ) (b : Scope) (c : Name) (p : ℕ) (ts : List Token) → is_brace k ≡ false → name_by k s n b c p ts ≡ got (operand (plain_by (innermost b c) s c p) p) ts
 name_plain open_brace s n b c p ts h = cc
 name_plain k s n b c p ts h = refl
 

@@ -1,25 +1,25 @@
 -- The canonical text of an equation, a connective, a negation and a binder reads as it.
-use Rattle.std.proofs.Common.{◌≡◌, ℕ, zero, suc, ◌+◌, ◌-◌, ◌<◌, ◌≤◌, ◌^◌, Bool, true, false, not, List, [], ◌∷◌, ◌++◌, length, length-append, append_assoc, Option, Some, None, cond, add-one, refl, ap, sym, ◌∙◌, subst, arith}
+use Rattle.std.proofs.Common.{◌≡◌, ℕ, zero, suc, ◌+◌, ◌<◌, ◌^◌, true, false, List, [], ◌∷◌, ◌++◌, length, length-append, append_assoc, Some, add-one, refl, ap, sym, ◌∙◌, arith}
 use Rattle.std.specs.Prelude.{codes, bytes_eq}
 use Rattle.std.specs.Fmt.{decimal}
 use Rattle.std.proofs.lemmas.Slice.Eq.{bytes_eq-Decides}
-use Rattle.hol_terms.specs.Name.{Name, is_name}
+use Rattle.hol_terms.specs.Name.{Name}
 use Rattle.hol_terms.specs.Ty.{Ty}
 use Rattle.hol_terms.specs.Tm.{Tm, tm_index, tm_free, tm_const, tm_comb, tm_abs}
 use Rattle.hol_terms.specs.Typing.{tm_type, fun_ty, range_ty}
 use Rattle.hol_terms.specs.TyVars.{ty_vars, instance_at}
-use Rattle.hol_terms.specs.Rules.{fits, lambda}
+use Rattle.hol_terms.specs.Rules.{lambda}
 use Rattle.hol_terms.specs.Definition.{bool_ty, alpha, eq_ty}
-use Rattle.hol_terms.specs.Signature.{Signature, generic_of, entry_at, IsTyOver, IsConstOver, IsOver}
+use Rattle.hol_terms.specs.Signature.{Signature, entry_at, IsTyOver, IsConstOver, IsOver}
 use Rattle.hol_terms.specs.Text.{Text, ty_text, bound_text, sugar, before, is_plain, is_atom, printed}
-use Rattle.hol_text.specs.Tokens.{Kind, a_name, equals, and_sign, or_sign, implies_sign, not_sign, all_sign, ex_sign, lambda_sign, colon, dot, Token, token, sign, head_kind, head_text, head_place, tail, tokens_from}
-use Rattle.hol_text.specs.Meaning.{Meaning, means, given, constant, one_type, type_of, Operand, operand, apply, equation, connective, negation, abstraction, quantified}
-use Rattle.hol_text.specs.Reading.{Front, got, stop, ◌>>=◌, expect_by, is_dot, type_at, typed_at, Scope, stand_in, atom_at, begins_atom, application_at, infix_by, is_dotted, bound_by, bound_at, Binder, body_at, binder_at, term_by, term_at}
+use Rattle.hol_text.specs.Tokens.{Kind, a_name, equals, and_sign, or_sign, implies_sign, all_sign, ex_sign, Token, token, sign, head_kind, head_place, tail, tokens_from}
+use Rattle.hol_text.specs.Meaning.{means, given, constant, Operand, operand, apply, equation, connective, negation, abstraction, quantified}
+use Rattle.hol_text.specs.Reading.{Front, got, ◌>>=◌, expect_by, is_dot, typed_at, Scope, begins_atom, application_at, infix_by, bound_by, bound_at, Binder, body_at, binder_at, term_by, term_at}
 use Rattle.hol_text.specs.ReadsBack.{ReadsBack, signed}
 use Rattle.hol_text.proofs.ReadBackTokens.{Ends, ends_sign, ends_dot, at_colon, at_dot, at_equals, at_and, at_or, at_implies, at_not, at_all, at_ex, at_lambda, at_name}
-use Rattle.hol_text.proofs.ReadBackTypes.{has_names, Comes, Rest, closes, reads_type}
-use Rattle.hol_text.proofs.ReadBackBinders.{bound_name, bound_undotted, scope, opened, opened_type, above, close}
-use Rattle.hol_text.proofs.ReadBackAtoms.{text_at, in_scope, is_brace, Follows, closes_term, Closed, Gives, leads, no_atom, ReadsTm, by_atom, infix_stop}
+use Rattle.hol_text.proofs.ReadBackTypes.{has_names, Rest, reads_type}
+use Rattle.hol_text.proofs.ReadBackBinders.{bound_name, bound_undotted, scope, opened_type, above, close}
+use Rattle.hol_text.proofs.ReadBackAtoms.{text_at, in_scope, is_brace, Follows, Closed, Gives, leads, no_atom, ReadsTm, by_atom}
 use Rattle.hol_text.proofs.ReadBackLeaves.{constant_is}
 use Rattle.hol_text.proofs.ReadBackApplications.{operand_text, operand_starts, operand_gives, apply_is, fits_in}
 

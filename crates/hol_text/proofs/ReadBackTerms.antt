@@ -1,10 +1,10 @@
 -- The canonical text of a term reads as the term.
-use Rattle.std.proofs.Common.{◌≡◌, ℕ, zero, suc, ◌+◌, ◌<◌, ◌≤◌, ◌^◌, Bool, true, false, not, List, [], ◌∷◌, ◌++◌, length, length-append, cond, refl, ap, sym, ◌∙◌, subst, arith}
+use Rattle.std.proofs.Common.{◌≡◌, ℕ, zero, suc, ◌+◌, ◌<◌, ◌≤◌, ◌^◌, Bool, true, false, not, List, ◌∷◌, ◌++◌, length, length-append, refl, ap, sym, subst, arith}
 use Rattle.std.specs.Prelude.{codes, bytes_eq}
 use Rattle.hol_terms.specs.Name.{Name}
 use Rattle.hol_terms.specs.Ty.{Ty}
 use Rattle.hol_terms.specs.Tm.{Tm, tm_index, tm_free, tm_const, tm_comb, tm_abs, tm_size}
-use Rattle.hol_terms.specs.Signature.{Signature, IsConstOver, IsOver}
+use Rattle.hol_terms.specs.Signature.{Signature, IsOver}
 use Rattle.hol_terms.specs.Text.{Text, parenthesized, sugar, none, is_plain, is_atom}
 use Rattle.hol_text.specs.ReadsBack.{ReadsBack}
 use Rattle.hol_text.proofs.PrintLemmas.{tm_size-positive}

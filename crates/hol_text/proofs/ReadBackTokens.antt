@@ -1,19 +1,18 @@
 -- The tokens of canonical text, a piece at a time.
-use Rattle.std.proofs.Common.{◌≡◌, ◌⊎◌, inl, inr, ℕ, ◌+◌, ◌<◌, Bool, true, false, not, ◌&&◌, ◌||◌, List, [], ◌∷◌, ◌++◌, length, length-append, append_assoc, Option, Some, None, cond, nat_eq, refl, ap, sym, ◌∙◌, subst, arith}
+use Rattle.std.proofs.Common.{◌≡◌, ◌⊎◌, inl, inr, ℕ, ◌+◌, ◌<◌, Bool, true, false, not, ◌&&◌, ◌||◌, List, [], ◌∷◌, ◌++◌, length, length-append, append_assoc, Some, None, cond, refl, ap, sym, ◌∙◌, arith}
 use Rattle.std.specs.Prelude.{◌==◌, nat_lt, codes, bytes_eq}
 use Rattle.std.specs.List.{list_all}
 use Rattle.std.specs.Str.{chars, is_utf8, IsUtf8}
-use Rattle.std.specs.Char.{is_ascii_alphabetic, is_ascii_alphanumeric}
-use Rattle.std.proofs.lemmas.Str.{IsUtf8-from_is_utf8, chars-append, chars-nil, encodes-chars}
+use Rattle.std.proofs.lemmas.Str.{IsUtf8-from_is_utf8, chars-append, encodes-chars}
 use Rattle.std.proofs.lemmas.Bool.{and_parts}
 use Rattle.std.proofs.lemmas.Bool.Decides.{nat_tests}
 use Rattle.std.proofs.lemmas.Slice.Eq.{bytes_eq-Decides}
 use lib.Utf8.{encodes, encode}
 use Rattle.unicode_ident.specs.Ident.{is_xid_start, is_xid_continue}
 use Rattle.unicode_ident.proofs.IdentLemmas.{is_xid_start-ascii, is_xid_continue-ascii}
-use Rattle.hol_terms.specs.Name.{Name, is_start, is_segment_of, segment_step, on_step, are_segments_of, is_keyword, is_segment, is_name}
+use Rattle.hol_terms.specs.Name.{Name, is_start, is_segment_of, on_step, are_segments_of, is_keyword, is_segment, is_name}
 use Rattle.hol_terms.specs.Text.{Text}
-use Rattle.hol_text.specs.Tokens.{Kind, a_name, a_variable, open_paren, close_paren, open_brace, close_brace, open_bracket, close_bracket, comma, colon, dot, equals, arrow, lambda_sign, all_sign, ex_sign, not_sign, and_sign, or_sign, implies_sign, the_end, Token, token, sign, word_kind, word, Class, letter, class_of, starts, starts_by, continues, continues_by, part_of, Part, of_segment, of_dot, outside, State, between, in_name, after_dot, after_quote, in_variable, begin_by, name_by, dot_by, quote_by, variable_by, step, Step, tokens_in, tokens_from, tokens}
+use Rattle.hol_text.specs.Tokens.{a_name, a_variable, open_paren, close_paren, open_brace, close_brace, open_bracket, close_bracket, comma, colon, dot, equals, arrow, lambda_sign, all_sign, ex_sign, not_sign, and_sign, or_sign, implies_sign, the_end, token, sign, word_kind, word, letter, class_of, starts, starts_by, continues, continues_by, part_of, of_segment, of_dot, outside, State, between, in_name, after_dot, after_quote, in_variable, tokens_in, tokens_from}
 
 -- ---- signs
 

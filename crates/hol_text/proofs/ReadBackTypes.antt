@@ -1,18 +1,18 @@
 -- The canonical text of a type reads as the type.
-use Rattle.std.proofs.Common.{◌≡◌, ◌⊎◌, inl, inr, ℕ, zero, suc, ◌+◌, ◌<◌, ◌≤◌, Bool, true, false, not, List, [], ◌∷◌, ◌++◌, length, length-append, append_assoc, Option, Some, None, cond, refl, ap, sym, ◌∙◌, subst, arith, eq-eqb}
+use Rattle.std.proofs.Common.{◌≡◌, ℕ, zero, suc, ◌+◌, ◌<◌, ◌≤◌, Bool, true, false, List, [], ◌∷◌, ◌++◌, length, length-append, append_assoc, Some, refl, ap, sym, ◌∙◌, arith, eq-eqb}
 use Rattle.std.specs.Prelude.{◌==◌, codes, bytes_eq}
 use Rattle.std.specs.List.{flat_map}
 use Rattle.std.proofs.lemmas.Slice.Eq.{bytes_eq-Decides}
 use Rattle.hol_terms.specs.Name.{Name, is_segment, is_name}
-use Rattle.hol_terms.specs.Ty.{Ty, ty_var, ty_app, Tys, no_tys, more_tys, tys, ty_list, tys-ty_list}
+use Rattle.hol_terms.specs.Ty.{Ty, ty_var, ty_app, Tys, no_tys, more_tys, ty_list, tys-ty_list}
 use Rattle.hol_terms.specs.Typing.{fun_name, fun_ty}
 use Rattle.hol_terms.specs.Signature.{Signature, arity_of, tys_count, IsTyOver, AreTysOver}
 use Rattle.hol_terms.specs.Text.{Text, parenthesized, with_commas, is_arrow, is_function, ty_text, tys_texts}
-use Rattle.hol_text.specs.Tokens.{Kind, a_name, a_variable, a_keyword, open_paren, close_paren, open_brace, close_brace, open_bracket, close_bracket, comma, colon, semicolon, dot, bar, equals, arrow, lambda_sign, all_sign, ex_sign, not_sign, and_sign, or_sign, implies_sign, the_end, no_token, Token, token, sign, head_kind, head_text, head_place, tail, tokens_from}
+use Rattle.hol_text.specs.Tokens.{Kind, a_name, close_paren, close_brace, close_bracket, comma, dot, arrow, the_end, Token, token, head_kind, tokens_from}
 use Rattle.hol_text.specs.Meaning.{Meaning, means, Arguments, given, with_one, is_count, applied_by, applied, function}
-use Rattle.hol_text.specs.Reading.{Front, got, stop, ◌>>=◌, expect_by, is_close_paren, is_name_token, postfix_by, postfix, more_types, types_at, tuple, tuple_by, group_by, dtype_by, dtype_at, range_by, type_at}
+use Rattle.hol_text.specs.Reading.{Front, got, ◌>>=◌, expect_by, is_close_paren, postfix_by, postfix, more_types, types_at, tuple, group_by, dtype_at, range_by, type_at}
 use Rattle.hol_text.specs.ReadsBack.{ReadsBack}
-use Rattle.hol_text.proofs.ReadBackTokens.{Ends, ends_text, ends_sign, ends_dot, at_blank, at_open_paren, at_close_paren, at_comma, at_arrow, at_name, at_variable}
+use Rattle.hol_text.proofs.ReadBackTokens.{Ends, ends_sign, at_blank, at_open_paren, at_close_paren, at_comma, at_arrow, at_name, at_variable}
 
 -- the names that a signature gives are names
 pub record HasNames (s : Signature) : Type 0 where
@@ -60,7 +60,7 @@ rest_close_paren r = record { ends = ends_sign 41 r refl refl; closed = λ q. rw
 pub rest_comma : (r : Text) → Rest (codes "," ++ r)
 rest_comma r = record { ends = ends_sign 44 r refl refl; closed = λ q. rw at_comma refl }
 
-postfix_stops : (s : Signature) (t : Meaning Ty) (ts : List Token) → closes (head_kind ts) ≡ true → postfix s t ts ≡ got t ts
+pub postfix_stops : (s : Signature) (t : Meaning Ty) (ts : List Token) → closes (head_kind ts) ≡ true → postfix s t ts ≡ got t ts
 postfix_stops s t [] h = refl
 postfix_stops s t (token k w p ∷ ts) h = at k h
   where
@@ -68,7 +68,7 @@ postfix_stops s t (token k w p ∷ ts) h = at k h
     at a_name g = cc
     at k g = refl
 
-range_stops : (k : Kind) (s : Signature) (read : List Token → Front (Meaning Ty)) (t : Meaning Ty) (ts : List Token) → closes k ≡ true → range_by k s read t ts ≡ got t ts
+pub range_stops : (k : Kind) (s : Signature) (read : List Token → Front (Meaning Ty)) (t : Meaning Ty) (ts : List Token) → closes k ≡ true → range_by k s read t ts ≡ got t ts
 range_stops arrow s read t ts h = cc
 range_stops k s read t ts h = refl
 
@@ -180,7 +180,7 @@ closes_list close_paren = true
 closes_list close_brace = true
 closes_list k = false
 
-more_stop : (k : Kind) (next : Arguments → List Token → Front Arguments) (args : Arguments) (ts : List Token) → closes_list k ≡ true → more_types k next args ts ≡ got args ts
+pub more_stop : (k : Kind) (next : Arguments → List Token → Front Arguments) (args : Arguments) (ts : List Token) → closes_list k ≡ true → more_types k next args ts ≡ got args ts
 more_stop comma next args ts h = cc
 more_stop k next args ts h = refl
 

@@ -1,5 +1,5 @@
 -- One level of the recursion on types, and one turn of its loops.
-use Rattle.std.proofs.Common.{◌≡◌, refl, sym, ap, ◌∙◌, ℕ, zero, suc, ◌+◌, ◌-◌, ◌<◌, ◌≤◌, List, [], ◌∷◌, ◌++◌, length, length-append, arith}
+use Rattle.std.proofs.Common.{◌≡◌, refl, sym, ap, ◌∙◌, ℕ, zero, suc, ◌+◌, ◌-◌, ◌<◌, List, [], ◌∷◌, length-append, arith}
 use Rattle.hol_terms.specs.Ty.{Ty}
 use Rattle.hol_terms.specs.Signature.{Signature}
 use Rattle.hol_text.specs.Tokens.{Kind, Token, head_kind, head_place, tail}
@@ -10,7 +10,7 @@ use Rattle.hol_text.specs.declared.types.Stop.{Stop}
 use Rattle.hol_text.specs.declared.types.Stop.TheVariants.{Memory, Grammar}
 use Rattle.hol_text.specs.declared.tokens.TokenKind.{TokenKind}
 use Rattle.hol_text.specs.declared.tokens.TokenKind.TheVariants.{Comma}
-use Rattle.hol_text.specs.Reading.{Front, ◌>>=◌, got, stop, stop_at, more_types, types_at, range_by, dtype_at, type_at}
+use Rattle.hol_text.specs.Reading.{Front, ◌>>=◌, got, stop, more_types, types_at, range_by, dtype_at, type_at}
 
 pub count-with_one : (a : Arguments) (m : Meaning Ty) → count (with_one a m) ≡ count a + 1
 count-with_one (given ts) (means t) = length-append ts (t ∷ [])

@@ -1,9 +1,11 @@
 pub mod Answers
 pub mod BoundViews
 pub mod Fitting
+pub mod Grammar
 pub mod LexerViews
 pub mod Meaning
 pub mod MeaningViews
+pub mod Over
 pub mod Printing
 pub mod Reading
 pub mod Reads

@@ -1,7 +1,5 @@
 -- What the reader's values stand for.
 use Rattle.std.specs.Prelude.{string_bytes}
-use Rattle.hol_terms.specs.Ty.{Ty}
-use Rattle.hol_terms.specs.Tm.{Tm}
 use Rattle.hol_text.specs.Meaning as Read
 use Rattle.hol_text.specs.declared.meaning.Fault.{Fault}
 use Rattle.hol_text.specs.declared.meaning.Fault.TheVariants.{Unknown, IllTyped}

@@ -1,5 +1,5 @@
 -- Signatures over which each canonical text is read as what it was printed from.
-use Rattle.std.specs.Prelude.{◌≡◌, ℕ, Bool, true, false, List, [], ◌∷◌, Some, codes}
+use Rattle.std.specs.Prelude.{◌≡◌, ℕ, true, false, List, [], ◌∷◌, Some, codes}
 use Rattle.hol_terms.specs.Name.{Name, is_name, is_numbered}
 use Rattle.hol_terms.specs.Ty.{Ty}
 use Rattle.hol_terms.specs.Typing.{fun_ty}

@@ -1,8 +1,10 @@
 //! Reads types and terms over a signature.
 
-ghost use Rattle.std.specs.Prelude.{◌≡◌};
+ghost use Rattle.std.specs.Prelude.{◌≡◌, [], IfOk};
+ghost use Rattle.hol_terms.specs.Signature.{IsTyOver, IsOver};
 ghost use Rattle.hol_text.specs.Answers.{Answers};
 ghost use Rattle.hol_text.specs.MeaningViews.{meaning_of};
+ghost use Rattle.hol_text.specs.Over.{GivesTypes};
 ghost use Rattle.hol_text.specs.Reading.{ended, reading_of_type, reading_of_term};
 ghost use Rattle.hol_text.specs.TokenViews.{tokens_of};
 ghost use Rattle.hol_text.specs.Tokens as Lex;
@@ -65,11 +67,9 @@ fn ended<T: Drop>(meaning: Meaning<T>, rest: &[Token]) -> Result<T, ReadError>
     }
 }
 
-/// The type that the text is: `'a`, `c`, `t c`, `(t,u) c`, `t -> u`. The errors are those of [`ReadError`], the first of them by
-/// kind, in this order: syntax, unknown, ill-typed. Linear in the text. The recursion goes as deep as the text nests types, as
-/// dropping a type does.
+/// The type that the text is.
 #[tactic(auto, unfolding(crate::specs::Reading::reading_of_type))]
-pub fn read_type(alloc: Global, sig: &Sig, text: &str) -> Result<HolType, ReadError>
+fn whole_type(alloc: Global, sig: &Sig, text: &str) -> Result<HolType, ReadError>
     ensures { Answers result (reading_of_type sig.now text.now) }
 {
     let tokens = tokens(alloc, text)?;
@@ -80,13 +80,9 @@ pub fn read_type(alloc: Global, sig: &Sig, text: &str) -> Result<HolType, ReadEr
     }
 }
 
-/// The term that the text is: `f x`, `\x:t. p`, `c{t}`, `[x:t]`, and the sugar `a = b`, `~ p`, `p /\ q`, `p \/ q`, `p ==> q`,
-/// `!x:t. p`, `?x:t. p` for the constants eq, not, conj, disj, imp, all and ex of the signature. The errors are those of
-/// [`ReadError`], the first of them by kind, in this order: syntax, unknown, ill-typed. Linear in the text but for names, which are
-/// sought among the binders around, and for binders, each of which walks its body. The recursion goes as deep as the text nests
-/// types and terms, as dropping a term does.
+/// The term that the text is.
 #[tactic(auto, unfolding(crate::specs::Reading::reading_of_term))]
-pub fn read_term(alloc: Global, sig: &Sig, text: &str) -> Result<Term, ReadError>
+fn whole_term(alloc: Global, sig: &Sig, text: &str) -> Result<Term, ReadError>
     ensures { Answers result (reading_of_term sig.now text.now) }
 {
     let tokens = tokens(alloc, text)?;
@@ -95,4 +91,26 @@ pub fn read_term(alloc: Global, sig: &Sig, text: &str) -> Result<Term, ReadError
         Err(Stop::Memory) => Err(ReadError::Memory),
         Err(Stop::Grammar(place)) => Err(ReadError::Syntax { place }),
     }
+}
+
+/// The type that the text is: `'a`, `c`, `t c`, `(t,u) c`, `t -> u`. The errors are those of [`ReadError`], the first of them by
+/// kind, in this order: syntax, unknown, ill-typed. Linear in the text. The recursion goes as deep as the text nests types, as
+/// dropping a type does.
+pub fn read_type(alloc: Global, sig: &Sig, text: &str) -> Result<HolType, ReadError>
+    ensures exact { Answers result (reading_of_type sig.now text.now) }
+    ensures over { IfOk result (λ t. IsTyOver sig.now t) }
+{
+    whole_type(alloc, sig, text)
+}
+
+/// The term that the text is: `f x`, `\x:t. p`, `c{t}`, `[x:t]`, and the sugar `a = b`, `~ p`, `p /\ q`, `p \/ q`, `p ==> q`,
+/// `!x:t. p`, `?x:t. p` for the constants eq, not, conj, disj, imp, all and ex of the signature. The errors are those of
+/// [`ReadError`], the first of them by kind, in this order: syntax, unknown, ill-typed. Linear in the text but for names, which are
+/// sought among the binders around, and for binders, each of which walks its body. The recursion goes as deep as the text nests
+/// types and terms, as dropping a term does.
+pub fn read_term(alloc: Global, sig: &Sig, text: &str) -> Result<Term, ReadError>
+    ensures exact { Answers result (reading_of_term sig.now text.now) }
+    ensures over { GivesTypes sig.now → IfOk result (λ t. IsOver sig.now [] t) }
+{
+    whole_term(alloc, sig, text)
 }

@@ -1,8 +1,5 @@
-use Rattle.std.proofs.Common.{◌≡◌, ◌-◌, ◌+◌, ◌<◌, true, false, sym, ap, ◌∙◌, arith}
+use Rattle.std.proofs.Common.{◌≡◌, ◌-◌, ◌+◌, ◌<◌, arith}
 use Rattle.std.proofs.lemmas.Result.{err_from_is_err_and}
-use Rattle.hol_text.specs.Tokens.{head_kind}
-use Rattle.hol_text.specs.TokenViews.{tokens_of}
-use Rattle.hol_text.specs.Reading.{begins_atom}
 use Rattle.hol_text.proofs.TermSteps.{begins-is, atoms-over, atoms-go_on, atoms-fail, atoms-end}
 use Rattle.hol_text.proofs.terms.+terms.Goals as goal
 
