@@ -7,6 +7,7 @@ pub mod MeaningViews
 pub mod Over
 pub mod Reading
 pub mod Reads
+pub mod Samples
 pub mod ScopeViews
 pub mod TokenViews
 pub mod Tokens

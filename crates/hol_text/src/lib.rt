@@ -4,6 +4,7 @@
 mod lexer;
 mod meaning;
 pub mod read;
+pub mod samples;
 mod scope;
 mod terms;
 #[cfg(test)]
