@@ -10,6 +10,7 @@ pub mod Printing
 pub mod Reading
 pub mod Reads
 pub mod ReadsBack
+pub mod Samples
 pub mod ScopeViews
 pub mod TokenViews
 pub mod Tokens

@@ -6,6 +6,7 @@ mod lexer;
 mod meaning;
 pub mod print;
 pub mod read;
+pub mod samples;
 mod scope;
 mod terms;
 #[cfg(test)]
