@@ -2,11 +2,11 @@
 use Rattle.std.proofs.Common.{◌≡◌, true, List, [], ◌∷◌, ◌++◌, map, refl, sym, ap, ◌∙◌, append-nil}
 use Rattle.std.proofs.lemmas.Bool.{and_from}
 use Rattle.hol_terms.specs.Name.{dot_abs, dot_rep}
-use Rattle.hol_terms.specs.Definition.{Definition, const_def, type_def, types_of, consts_of, with_def, signature_of}
+use Rattle.hol_terms.specs.Definition.{Definition, const_def, type_def, signature_of}
 use Rattle.hol_terms.specs.Table.{introduces_new}
 use Rattle.hol_terms.specs.Proves.{IsConservative, AreConservative}
 use Rattle.hol_terms.proofs.Defining.{may_introduce-new}
-use Rattle.hol_terms.proofs.Weaken.{types-append, consts-append, AreConservativeAfter-push}
+use Rattle.hol_terms.proofs.Weaken.{AreConservativeAfter-push}
 
 -- a conservative definition introduces new names
 pub conservative_new : (ds : List Definition) (d : Definition) → IsConservative ds d → introduces_new (signature_of ds) d ≡ true
@@ -14,13 +14,6 @@ conservative_new ds (const_def c t) h = may_introduce-new (signature_of ds) c h.
 conservative_new ds (type_def n p) h =
     let s = signature_of ds in
     and_from _ _ (and_from _ _ (may_introduce-new s n h.named) (may_introduce-new s (dot_abs n) h.named_abs)) (may_introduce-new s (dot_rep n) h.named_rep)
-
--- the signature of one definition more
-pub signature_of-push : (ds : List Definition) (d : Definition) → with_def (signature_of ds) d ≡ signature_of (ds ++ d ∷ [])
-signature_of-push ds d =
-    let t : (signature_of ds).types ++ types_of d ≡ (signature_of (ds ++ d ∷ [])).types = ap (λ ns. (signature_of ds).types ++ ns) (sym (append-nil (types_of d))) ∙ sym (types-append ds (d ∷ [])) in
-    let c : (signature_of ds).consts ++ consts_of d ≡ (signature_of (ds ++ d ∷ [])).consts = ap (λ ns. (signature_of ds).consts ++ ns) (sym (append-nil (consts_of d))) ∙ sym (consts-append ds (d ∷ [])) in
-    λ i. record { types = t i; consts = c i }
 
 pub conservative_push : (ds : List Definition) (d : Definition) → AreConservative ds → IsConservative ds d → AreConservative (ds ++ d ∷ [])
 conservative_push ds d h c = AreConservativeAfter-push [] ds d h c

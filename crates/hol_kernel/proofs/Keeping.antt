@@ -21,7 +21,8 @@ use Rattle.hol_kernel.specs.Kept.{AreSaid, IsKernel}
 use Rattle.hol_kernel.specs.declared.kernel.Kernel.TheInside.{Inside}
 use Rattle.hol_kernel.specs.declared.step.Step.{Step}
 use Rattle.hol_kernel.specs.declared.step.Step.TheVariants as step
-use Rattle.hol_kernel.proofs.Adding.{conservative_push, signature_of-push, map-push}
+use Rattle.hol_kernel.proofs.Adding.{conservative_push, map-push}
+use Rattle.hol_terms.proofs.Weaken.{signature_of-push}
 use Rattle.hol_kernel.proofs.Fitting.{type_form}
 use Rattle.hol_kernel.proofs.Steps.{slice_get-append, slice_get-after}
 use Rattle.hol_kernel.proofs.Sound.{step_proves, run_proves}

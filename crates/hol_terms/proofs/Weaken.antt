@@ -9,7 +9,7 @@ use Rattle.hol_terms.specs.Tm.{Tm, tm_index, tm_free, tm_const, tm_comb, tm_abs}
 use Rattle.hol_terms.specs.Subst.{TySubst}
 use Rattle.hol_terms.specs.Binding.{VarSubst}
 use Rattle.hol_terms.specs.Signature.{Signature, entry_at, arity_of, generic_of, tys_count, IsTyOver, AreTysOver, IsOver}
-use Rattle.hol_terms.specs.Definition.{Definition, types_of, consts_of, signature_of, start}
+use Rattle.hol_terms.specs.Definition.{Definition, types_of, consts_of, with_def, signature_of, start}
 use Rattle.hol_terms.specs.Sequent.{Sequent, IsTyped}
 use Rattle.hol_terms.specs.Base.{base}
 use Rattle.hol_terms.specs.Proves.{AreTypesOver, AreOver, IsPrefix, IsTypedOver, Proves, by_refl, by_trans, by_comb, by_abs, by_beta, by_assume, by_eq_mp, by_deduct, by_inst_type, by_inst, by_axiom, by_definition, IsConservative, AreConservativeAfter}
@@ -32,6 +32,13 @@ types-append ds es = ap (λ ns. start.types ++ ns) (flat_map-append types_of ds 
 
 pub consts-append : (ds es : List Definition) → (signature_of (ds ++ es)).consts ≡ (signature_of ds).consts ++ flat_map consts_of es
 consts-append ds es = ap (λ ns. start.consts ++ ns) (flat_map-append consts_of ds es) ∙ sym (append_assoc start.consts (flat_map consts_of ds) (flat_map consts_of es))
+
+-- the signature of one definition more
+pub signature_of-push : (ds : List Definition) (d : Definition) → with_def (signature_of ds) d ≡ signature_of (ds ++ d ∷ [])
+signature_of-push ds d =
+    let t : (signature_of ds).types ++ types_of d ≡ (signature_of (ds ++ d ∷ [])).types = ap (λ ns. (signature_of ds).types ++ ns) (sym (append-nil (types_of d))) ∙ sym (types-append ds (d ∷ [])) in
+    let c : (signature_of ds).consts ++ consts_of d ≡ (signature_of (ds ++ d ∷ [])).consts = ap (λ ns. (signature_of ds).consts ++ ns) (sym (append-nil (consts_of d))) ∙ sym (consts-append ds (d ∷ [])) in
+    λ i. record { types = t i; consts = c i }
 
 pub extends : (ds es : List Definition) → Extends (signature_of ds) (signature_of (ds ++ es))
 extends ds es = record {

@@ -32,3 +32,8 @@ pub mod Table
 pub mod WellFormed
 pub mod BaseLines
 pub mod TypeNames
+pub mod Tokens
+pub mod Meaning
+pub mod Reading
+pub mod Grammar
+pub mod ReadsBack

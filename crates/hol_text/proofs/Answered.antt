@@ -6,7 +6,7 @@ use Rattle.hol_terms.specs.Tm.{Tm}
 use Rattle.hol_terms.specs.Signature.{Signature, IsTyOver, IsOver}
 use Rattle.hol_text.specs.Answers.{Answers}
 use Rattle.hol_text.specs.Over.{GivesTypes}
-use Rattle.hol_text.specs.Reading.{reading_of_type, reading_of_term}
+use Rattle.hol_terms.specs.Reading.{reading_of_type, reading_of_term}
 use Rattle.hol_text.specs.declared.read.ReadError.{ReadError}
 use Rattle.hol_text.proofs.OverTerms.{type_read-over, term_read-over}
 

@@ -5,7 +5,7 @@ use Rattle.std.proofs.lemmas.Bool.Decides.{nat_tests}
 use Rattle.unicode_ident.specs.Ident.{is_xid_start, is_xid_continue}
 use Rattle.unicode_ident.proofs.IdentLemmas.{is_xid_start-ascii, is_xid_continue-ascii}
 use Rattle.hol_terms.specs.Name.{is_start}
-use Rattle.hol_text.specs.Tokens.{starts_by, starts, continues_by, continues}
+use Rattle.hol_terms.specs.Tokens.{starts_by, starts, continues_by, continues}
 
 low_line : (c : ℕ) → nat_lt c 128 ≡ false → (c == 95) ≡ false
 low_line c h = grind (arith, nat_tests)

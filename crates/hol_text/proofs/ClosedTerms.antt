@@ -7,10 +7,10 @@ use Rattle.hol_terms.specs.Signature.{Signature}
 use Rattle.hol_terms.specs.Loose.{IsClosedAt}
 use Rattle.hol_terms.specs.Rules.{fits}
 use Rattle.hol_terms.specs.Binding.{tm_bind, var_eq}
-use Rattle.hol_text.specs.Tokens.{Kind, a_name, open_paren, open_brace, open_bracket, equals, lambda_sign, all_sign, ex_sign, not_sign, and_sign, or_sign, implies_sign, Token, head_kind, head_text, head_place, tail}
-use Rattle.hol_text.specs.Meaning.{ill_at, Meaning, means, fault, Arguments, given, faulty, constant_of, constant_by, constant, fitted, Operand, operand, apply, equation, connective, negation, abstraction, quantified}
+use Rattle.hol_terms.specs.Tokens.{Kind, a_name, open_paren, open_brace, open_bracket, equals, lambda_sign, all_sign, ex_sign, not_sign, and_sign, or_sign, implies_sign, Token, head_kind, head_text, head_place, tail}
+use Rattle.hol_terms.specs.Meaning.{ill_at, Meaning, means, fault, Arguments, given, faulty, constant_of, constant_by, constant, fitted, Operand, operand, apply, equation, connective, negation, abstraction, quantified}
 use Rattle.hol_text.specs.Fitting.{IsClosedMeaning}
-use Rattle.hol_text.specs.Reading.{Front, got, stop, ◌>>=◌, expect_by, Scope, innermost, stand_in, type_or_none, plain_by, braces_at, name_by, free_of, free_by, typed_at, is_close_paren, is_close_bracket, is_name_token, is_dot, Reader, atom_by, atom_at, begins_atom, atoms_by, atoms_at, application_at, infix_by, bound_at, Binder, body_at, binder_at, term_by, term_at}
+use Rattle.hol_terms.specs.Reading.{Front, got, stop, ◌>>=◌, expect_by, Scope, innermost, stand_in, type_or_none, plain_by, braces_at, name_by, free_of, free_by, typed_at, is_close_paren, is_close_bracket, is_name_token, is_dot, Reader, atom_by, atom_at, begins_atom, atoms_by, atoms_at, application_at, infix_by, bound_at, Binder, body_at, binder_at, term_by, term_at}
 
 -- what holds of a value that is read
 abbrev Holds : {A : Type 0} → (A → Type 0) → Front A → Type 0

@@ -3,9 +3,9 @@ use Rattle.std.proofs.Common.{refl}
 use Rattle.std.specs.Str.{chars}
 use lib.Utf8.{encode}
 use Rattle.hol_terms.specs.Rules.{same_ty}
-use Rattle.hol_text.specs.Tokens.{tokens}
-use Rattle.hol_text.specs.Meaning.{applied, function, constant, fitted, apply, equation, connective, negation, quantified}
-use Rattle.hol_text.specs.Reading.{types_at, dtype_at, type_at, typed_at, braces_at, atom_at, atoms_at, application_at, bound_at, body_at, binder_at, term_at, reading_of_type, reading_of_term}
+use Rattle.hol_terms.specs.Tokens.{tokens}
+use Rattle.hol_terms.specs.Meaning.{applied, function, constant, fitted, apply, equation, connective, negation, quantified}
+use Rattle.hol_terms.specs.Reading.{types_at, dtype_at, type_at, typed_at, braces_at, atom_at, atoms_at, application_at, bound_at, body_at, binder_at, term_at, reading_of_type, reading_of_term}
 use Rattle.hol_text.specs.Samples.{TypesReadSo, TermsReadSo}
 
 pub types_read_so : TypesReadSo

@@ -11,7 +11,7 @@ use Rattle.std.proofs.lemmas.List.{append-nil}
 use lib.Utf8.{scalar, scalars, encodes}
 use Rattle.unicode_ident.specs.Ident.{is_xid_continue}
 use Rattle.hol_terms.specs.Name.{Name, is_start, is_segment_of, segment_step, on_step, are_segments_of, is_keyword, is_segment, is_name}
-use Rattle.hol_text.specs.Tokens.{Kind, a_name, a_variable, open_paren, close_paren, open_brace, close_brace, open_bracket, close_bracket, comma, colon, semicolon, dot, bar, equals, arrow, lambda_sign, all_sign, ex_sign, not_sign, and_sign, or_sign, the_end, no_token, Token, token, sign, word_kind, word, Class, blank, hash, quote, zero_name, letter, minus, equal, slash, backslash, other, starts, continues, class_of, symbol_of, Part, of_segment, of_dot, outside, part_of, State, between, comment, in_name, after_dot, after_quote, in_variable, after_minus, after_equal, after_equals, after_slash, after_backslash, Step, behind, begin_by, begin, name_by, dot_by, quote_by, variable_by, pair_by, equal_by, equals_by, comment_by, step, last, tokens_in, tokens}
+use Rattle.hol_terms.specs.Tokens.{Kind, a_name, a_variable, open_paren, close_paren, open_brace, close_brace, open_bracket, close_bracket, comma, colon, semicolon, dot, bar, equals, arrow, lambda_sign, all_sign, ex_sign, not_sign, and_sign, or_sign, the_end, no_token, Token, token, sign, word_kind, word, Class, blank, hash, quote, zero_name, letter, minus, equal, slash, backslash, other, starts, continues, class_of, symbol_of, Part, of_segment, of_dot, outside, part_of, State, between, comment, in_name, after_dot, after_quote, in_variable, after_minus, after_equal, after_equals, after_slash, after_backslash, Step, behind, begin_by, begin, name_by, dot_by, quote_by, variable_by, pair_by, equal_by, equals_by, comment_by, step, last, tokens_in, tokens}
 use Rattle.hol_terms.proofs.AsciiNames.{is_name_from_ascii}
 use Rattle.hol_text.proofs.Characters.{starts-is, continues-is}
 

@@ -5,8 +5,8 @@ use Rattle.std.specs.Str.{chars, chars_after, continuation_len, lead_bits}
 use lib.Utf8.{encode}
 use Rattle.hol_terms.specs.Name.{Name, is_keyword}
 use Rattle.hol_terms.specs.Text.{Text}
-use Rattle.hol_text.specs.Tokens.{Kind, the_end, arrow, no_token, and_sign, or_sign, lambda_sign, Token, token, Class, blank, hash, quote, zero_name, letter, minus, equal, slash, backslash, other, class_of, starts, continues, Part, of_segment, of_dot, outside, part_of, State, between, comment, in_name, after_dot, after_quote, in_variable, after_minus, after_equal, after_equals, after_slash, after_backslash, begin_by, name_by, dot_by, quote_by, variable_by, pair_by, equal_by, equals_by, comment_by, step, last, tokens_in, tokens_from, tokens}
-use Rattle.hol_text.specs.Grammar.{before_end}
+use Rattle.hol_terms.specs.Tokens.{Kind, the_end, arrow, no_token, and_sign, or_sign, lambda_sign, Token, token, Class, blank, hash, quote, zero_name, letter, minus, equal, slash, backslash, other, class_of, starts, continues, Part, of_segment, of_dot, outside, part_of, State, between, comment, in_name, after_dot, after_quote, in_variable, after_minus, after_equal, after_equals, after_slash, after_backslash, begin_by, name_by, dot_by, quote_by, variable_by, pair_by, equal_by, equals_by, comment_by, step, last, tokens_in, tokens_from, tokens}
+use Rattle.hol_terms.specs.Grammar.{before_end}
 
 -- ---- characters and bytes
 

@@ -4,10 +4,10 @@ use Rattle.std.specs.Prelude.{codes}
 use Rattle.hol_terms.specs.Name.{Name}
 use Rattle.hol_terms.specs.Ty.{Ty}
 use Rattle.hol_terms.specs.Signature.{Signature}
-use Rattle.hol_text.specs.Tokens.{Kind, a_name, open_paren, close_paren, open_brace, close_brace, open_bracket, close_bracket, colon, dot, equals, lambda_sign, all_sign, ex_sign, not_sign, and_sign, or_sign, implies_sign, Token, token, head_kind, head_text, head_place, tail}
-use Rattle.hol_text.specs.Meaning.{Meaning, means, Arguments, given, constant, Operand, operand, apply, equation, connective, negation, abstraction, quantified}
-use Rattle.hol_text.specs.Reading.{Front, got, stop, ◌>>=◌, expect_by, is_dot, is_colon, is_name_token, is_close_paren, is_close_brace, is_close_bracket, types_at, type_at, typed_by, typed_at, Scope, innermost, stand_in, plain_by, braces_at, name_by, free_of, free_by, Reader, atom_by, atom_at, begins_atom, atoms_by, atoms_at, application_at, infix_by, is_dotted, bound_by, bound_at, type_or_none, Binder, body_at, binder_at, term_by, term_at}
-use Rattle.hol_text.specs.Grammar.{kind, word_of, Is, IsType, AreTypes, IsBinderSign, by_lambda, by_all, by_ex, IsInfixSign, by_equals, by_and, by_or, by_implies, IsTerm, a_binder, a_negation, an_application, an_infix, AreAtoms, first, further, IsAtom, bare, at_types, free, grouped}
+use Rattle.hol_terms.specs.Tokens.{Kind, a_name, open_paren, close_paren, open_brace, close_brace, open_bracket, close_bracket, colon, dot, equals, lambda_sign, all_sign, ex_sign, not_sign, and_sign, or_sign, implies_sign, Token, token, head_kind, head_text, head_place, tail}
+use Rattle.hol_terms.specs.Meaning.{Meaning, means, Arguments, given, constant, Operand, operand, apply, equation, connective, negation, abstraction, quantified}
+use Rattle.hol_terms.specs.Reading.{Front, got, stop, ◌>>=◌, expect_by, is_dot, is_colon, is_name_token, is_close_paren, is_close_brace, is_close_bracket, types_at, type_at, typed_by, typed_at, Scope, innermost, stand_in, plain_by, braces_at, name_by, free_of, free_by, Reader, atom_by, atom_at, begins_atom, atoms_by, atoms_at, application_at, infix_by, is_dotted, bound_by, bound_at, type_or_none, Binder, body_at, binder_at, term_by, term_at}
+use Rattle.hol_terms.specs.Grammar.{kind, word_of, Is, IsType, AreTypes, IsBinderSign, by_lambda, by_all, by_ex, IsInfixSign, by_equals, by_and, by_or, by_implies, IsTerm, a_binder, a_negation, an_application, an_infix, AreAtoms, first, further, IsAtom, bare, at_types, free, grouped}
 use Rattle.hol_text.proofs.ReadBackTypes.{closes, closes_list}
 use Rattle.hol_text.proofs.ReadBackAtoms.{is_brace, closes_term, unbraced_from, no_atom, atoms_stop, by_atom, infix_stop}
 use Rattle.hol_text.proofs.ReadBackLeaves.{name_plain}

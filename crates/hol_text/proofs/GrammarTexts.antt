@@ -4,10 +4,10 @@ use Rattle.hol_terms.specs.Ty.{Ty}
 use Rattle.hol_terms.specs.Tm.{Tm}
 use Rattle.hol_terms.specs.Signature.{Signature}
 use Rattle.hol_terms.specs.Text.{Text}
-use Rattle.hol_text.specs.Tokens.{Kind, a_name, a_variable, a_keyword, open_paren, close_paren, open_brace, close_brace, open_bracket, close_bracket, comma, colon, semicolon, dot, bar, equals, arrow, lambda_sign, all_sign, ex_sign, not_sign, and_sign, or_sign, implies_sign, the_end, no_token, Token, token, tokens, head_kind, head_place}
-use Rattle.hol_text.specs.Meaning.{Meaning, Operand}
-use Rattle.hol_text.specs.Reading.{Front, got, stop, type_at, term_at, Reading, no_syntax, ended, whole, only_meaning, reading_of_type, reading_of_term}
-use Rattle.hol_text.specs.Grammar.{kind, Is, IsType, a_domain, a_function, IsDomain, variable, constructor, in_parentheses, of_several, of_one, AreTypes, one, more, IsBinderSign, by_lambda, by_all, by_ex, IsInfixSign, by_equals, by_and, by_or, by_implies, IsTerm, a_binder, a_negation, an_application, an_infix, AreAtoms, first, further, IsAtom, bare, at_types, free, grouped, before_end}
+use Rattle.hol_terms.specs.Tokens.{Kind, a_name, a_variable, a_keyword, open_paren, close_paren, open_brace, close_brace, open_bracket, close_bracket, comma, colon, semicolon, dot, bar, equals, arrow, lambda_sign, all_sign, ex_sign, not_sign, and_sign, or_sign, implies_sign, the_end, no_token, Token, token, tokens, head_kind, head_place}
+use Rattle.hol_terms.specs.Meaning.{Meaning, Operand}
+use Rattle.hol_terms.specs.Reading.{Front, got, stop, type_at, term_at, Reading, no_syntax, ended, whole, only_meaning, reading_of_type, reading_of_term}
+use Rattle.hol_terms.specs.Grammar.{kind, Is, IsType, a_domain, a_function, IsDomain, variable, constructor, in_parentheses, of_several, of_one, AreTypes, one, more, IsBinderSign, by_lambda, by_all, by_ex, IsInfixSign, by_equals, by_and, by_or, by_implies, IsTerm, a_binder, a_negation, an_application, an_infix, AreAtoms, first, further, IsAtom, bare, at_types, free, grouped, before_end}
 use Rattle.hol_text.proofs.GrammarTypes.{Splits, type_form}
 use Rattle.hol_text.proofs.GrammarTerms.{term_form}
 

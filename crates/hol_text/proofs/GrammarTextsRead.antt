@@ -4,10 +4,10 @@ use Rattle.hol_terms.specs.Ty.{Ty}
 use Rattle.hol_terms.specs.Tm.{Tm}
 use Rattle.hol_terms.specs.Signature.{Signature}
 use Rattle.hol_terms.specs.Text.{Text}
-use Rattle.hol_text.specs.Tokens.{Kind, the_end, Token, token, tokens, head_kind}
-use Rattle.hol_text.specs.Meaning.{Meaning, means, fault, unknown_at, ill_at}
-use Rattle.hol_text.specs.Reading.{type_at, term_at, Reading, reads, no_syntax, unknown, ill_typed, reading_of, ended, whole, only_meaning, reading_of_type, reading_of_term}
-use Rattle.hol_text.specs.Grammar.{IsType, IsTerm, before_end}
+use Rattle.hol_terms.specs.Tokens.{Kind, the_end, Token, token, tokens, head_kind}
+use Rattle.hol_terms.specs.Meaning.{Meaning, means, fault, unknown_at, ill_at}
+use Rattle.hol_terms.specs.Reading.{type_at, term_at, Reading, reads, no_syntax, unknown, ill_typed, reading_of, ended, whole, only_meaning, reading_of_type, reading_of_term}
+use Rattle.hol_terms.specs.Grammar.{IsType, IsTerm, before_end}
 use Rattle.hol_text.proofs.ReadBackTypes.{closes}
 use Rattle.hol_text.proofs.ReadBackAtoms.{closes_term}
 use Rattle.hol_text.proofs.GrammarCounts.{tokens_short}

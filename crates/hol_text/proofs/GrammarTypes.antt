@@ -2,10 +2,10 @@
 use Rattle.std.proofs.Common.{◌≡◌, ℕ, zero, suc, ◌+◌, Bool, true, false, List, [], ◌∷◌, ◌++◌, length, append_assoc, refl, ap, sym, ◌∙◌, subst, arith}
 use Rattle.hol_terms.specs.Ty.{Ty}
 use Rattle.hol_terms.specs.Signature.{Signature}
-use Rattle.hol_text.specs.Tokens.{Kind, a_name, a_variable, a_keyword, open_paren, close_paren, open_brace, close_brace, open_bracket, close_bracket, comma, colon, semicolon, dot, bar, equals, arrow, lambda_sign, all_sign, ex_sign, not_sign, and_sign, or_sign, implies_sign, the_end, no_token, Token, token, head_kind, head_text, head_place, tail}
-use Rattle.hol_text.specs.Meaning.{Meaning, means, Arguments, given, with_one, applied, function}
-use Rattle.hol_text.specs.Reading.{Front, got, stop, ◌>>=◌, expect_by, is_close_paren, is_name_token, postfix_by, postfix, more_types, types_at, tuple, tuple_by, group_by, dtype_by, dtype_at, range_by, type_at}
-use Rattle.hol_text.specs.Grammar.{kind, Is, IsType, a_domain, a_function, IsDomain, variable, constructor, in_parentheses, of_several, of_one, AreTypes, one, more}
+use Rattle.hol_terms.specs.Tokens.{Kind, a_name, a_variable, a_keyword, open_paren, close_paren, open_brace, close_brace, open_bracket, close_bracket, comma, colon, semicolon, dot, bar, equals, arrow, lambda_sign, all_sign, ex_sign, not_sign, and_sign, or_sign, implies_sign, the_end, no_token, Token, token, head_kind, head_text, head_place, tail}
+use Rattle.hol_terms.specs.Meaning.{Meaning, means, Arguments, given, with_one, applied, function}
+use Rattle.hol_terms.specs.Reading.{Front, got, stop, ◌>>=◌, expect_by, is_close_paren, is_name_token, postfix_by, postfix, more_types, types_at, tuple, tuple_by, group_by, dtype_by, dtype_at, range_by, type_at}
+use Rattle.hol_terms.specs.Grammar.{kind, Is, IsType, a_domain, a_function, IsDomain, variable, constructor, in_parentheses, of_several, of_one, AreTypes, one, more}
 
 -- the tokens are some of this form, and the rest
 pub record Splits (P : List Token → Type 0) (ts rest : List Token) : Type 0 where

@@ -4,8 +4,8 @@ use Rattle.std.proofs.Common.{◌+◌, length, length-append, arith}
 use Rattle.std.specs.Char.{encode_utf8}
 use Rattle.std.specs.Str.{chars, IsUtf8}
 use Rattle.std.proofs.lemmas.Str.{chars_past_char, chars-nil}
-use Rattle.hol_text.specs.Tokens as Lex
-use Rattle.hol_text.specs.Tokens.{the_end, sign, step, last, tokens_in}
+use Rattle.hol_terms.specs.Tokens as Lex
+use Rattle.hol_terms.specs.Tokens.{the_end, sign, step, last, tokens_in}
 use Rattle.hol_text.specs.TokenViews.{token_of, tokens_of}
 use Rattle.hol_text.specs.declared.tokens.Token.{Token}
 

@@ -21,9 +21,9 @@ use Rattle.hol_terms.proofs.InstLemmas.{slice_get-append}
 use Rattle.hol_terms.proofs.Tables.{same_bytes}
 use Rattle.hol_terms.proofs.TypeInst.{gives_over, IsTyOver-subst}
 use Rattle.hol_text.specs.Over.{GivesTypes}
-use Rattle.hol_text.specs.Tokens.{Kind, a_name, open_paren, open_brace, open_bracket, equals, lambda_sign, all_sign, ex_sign, not_sign, and_sign, or_sign, implies_sign, the_end, Token, token, head_kind, head_text, head_place, tail, tokens}
-use Rattle.hol_text.specs.Meaning.{unknown_at, ill_at, Meaning, means, fault, Arguments, given, faulty, count, constant_of, constant_by, constant, fitted, Operand, operand, apply, type_of, equation, connective, negation, abstraction, quantified}
-use Rattle.hol_text.specs.Reading.{Front, got, stop, expect_by, Scope, innermost, stand_in, type_or_none, plain_by, braces_at, name_by, free_of, free_by, type_at, types_at, typed_at, is_close_paren, is_close_brace, is_close_bracket, is_name_token, is_dot, is_dotted, Reader, atom_by, atom_at, begins_atom, atoms_by, atoms_at, application_at, infix_by, bound_by, bound_at, Binder, body_at, binder_at, term_by, term_at, reads, ended, whole, only_meaning, reading_of_type, reading_of_term}
+use Rattle.hol_terms.specs.Tokens.{Kind, a_name, open_paren, open_brace, open_bracket, equals, lambda_sign, all_sign, ex_sign, not_sign, and_sign, or_sign, implies_sign, the_end, Token, token, head_kind, head_text, head_place, tail, tokens}
+use Rattle.hol_terms.specs.Meaning.{unknown_at, ill_at, Meaning, means, fault, Arguments, given, faulty, count, constant_of, constant_by, constant, fitted, Operand, operand, apply, type_of, equation, connective, negation, abstraction, quantified}
+use Rattle.hol_terms.specs.Reading.{Front, got, stop, expect_by, Scope, innermost, stand_in, type_or_none, plain_by, braces_at, name_by, free_of, free_by, type_at, types_at, typed_at, is_close_paren, is_close_brace, is_close_bracket, is_name_token, is_dot, is_dotted, Reader, atom_by, atom_at, begins_atom, atoms_by, atoms_at, application_at, infix_by, bound_by, bound_at, Binder, body_at, binder_at, term_by, term_at, reads, ended, whole, only_meaning, reading_of_type, reading_of_term}
 use Rattle.hol_text.proofs.Fits.{eq-then, itself, takes_if}
 use Rattle.hol_text.proofs.GoodTokens.{AreGood, tokens-good}
 use Rattle.hol_text.proofs.OverTypes.{Finds, bind_finds, tail-good, expect_finds, OverType, OverTypes, with_one-over, types-over, type-over, typed-over}

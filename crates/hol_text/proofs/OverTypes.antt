@@ -4,9 +4,9 @@ use Rattle.hol_terms.specs.Name.{Name}
 use Rattle.hol_terms.specs.Ty.{Ty, ty_var, tys}
 use Rattle.hol_terms.specs.Typing.{fun_name}
 use Rattle.hol_terms.specs.Signature.{Signature, arity_of, tys_count, IsTyOver, AreTysOver}
-use Rattle.hol_text.specs.Tokens.{Kind, a_name, a_variable, open_paren, close_paren, comma, arrow, Token, token, head_kind, head_text, head_place, tail}
-use Rattle.hol_text.specs.Meaning.{Meaning, means, fault, Arguments, given, faulty, with_one, is_count, applied_by, applied, function}
-use Rattle.hol_text.specs.Reading.{Front, got, stop, ◌>>=◌, expect_by, is_colon, is_name_token, is_close_paren, postfix_by, postfix, more_types, types_at, tuple_by, tuple, group_by, dtype_by, dtype_at, range_by, type_at, typed_by, typed_at}
+use Rattle.hol_terms.specs.Tokens.{Kind, a_name, a_variable, open_paren, close_paren, comma, arrow, Token, token, head_kind, head_text, head_place, tail}
+use Rattle.hol_terms.specs.Meaning.{Meaning, means, fault, Arguments, given, faulty, with_one, is_count, applied_by, applied, function}
+use Rattle.hol_terms.specs.Reading.{Front, got, stop, ◌>>=◌, expect_by, is_colon, is_name_token, is_close_paren, postfix_by, postfix, more_types, types_at, tuple_by, tuple, group_by, dtype_by, dtype_at, range_by, type_at, typed_by, typed_at}
 use Rattle.hol_text.proofs.GoodTokens.{AreGood}
 
 -- what holds of a value that is read, beside the tokens after it

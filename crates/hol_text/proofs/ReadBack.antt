@@ -5,10 +5,10 @@ use Rattle.hol_terms.specs.Ty.{Ty}
 use Rattle.hol_terms.specs.Tm.{Tm, tm_index, tm_free, tm_const, tm_comb, tm_abs, tm_size}
 use Rattle.hol_terms.specs.Signature.{Signature, IsTyOver, IsOver}
 use Rattle.hol_terms.specs.Text.{ty_text, tm_text}
-use Rattle.hol_text.specs.Tokens.{head_kind, tokens_from, tokens}
-use Rattle.hol_text.specs.Meaning.{means}
-use Rattle.hol_text.specs.Reading.{type_at, term_at, reads, ended, whole, only_meaning, reading_of_type, reading_of_term}
-use Rattle.hol_text.specs.ReadsBack.{ReadsBack}
+use Rattle.hol_terms.specs.Tokens.{head_kind, tokens_from, tokens}
+use Rattle.hol_terms.specs.Meaning.{means}
+use Rattle.hol_terms.specs.Reading.{type_at, term_at, reads, ended, whole, only_meaning, reading_of_type, reading_of_term}
+use Rattle.hol_terms.specs.ReadsBack.{ReadsBack}
 use Rattle.hol_text.proofs.ReadBackTokens.{ends_text, no_more, at_end}
 use Rattle.hol_text.proofs.ReadBackTypes.{has_names, Rest, reads_type}
 use Rattle.hol_text.proofs.ReadBackBinders.{opened}

@@ -8,9 +8,9 @@ use Rattle.hol_terms.specs.Rules.{fits}
 use Rattle.hol_terms.specs.Signature.{Signature, IsOver}
 use Rattle.hol_terms.specs.Text.{Text, parenthesized, sugar, none, is_plain, is_atom}
 use Rattle.hol_terms.proofs.Same.{same_ty-from}
-use Rattle.hol_text.specs.Tokens.{Token, head_kind, tokens_from}
-use Rattle.hol_text.specs.Meaning.{means, fitted, Operand, operand, apply}
-use Rattle.hol_text.specs.Reading.{Front, ◌>>=◌, expect_by, is_close_paren, atom_at, begins_atom, atoms_by, atoms_at, application_at, term_at}
+use Rattle.hol_terms.specs.Tokens.{Token, head_kind, tokens_from}
+use Rattle.hol_terms.specs.Meaning.{means, fitted, Operand, operand, apply}
+use Rattle.hol_terms.specs.Reading.{Front, ◌>>=◌, expect_by, is_close_paren, atom_at, begins_atom, atoms_by, atoms_at, application_at, term_at}
 use Rattle.hol_text.proofs.ReadBackTokens.{Ends, ends_sign, at_blank, at_open_paren, at_close_paren}
 use Rattle.hol_text.proofs.ReadBackBinders.{scope, opened_type}
 use Rattle.hol_text.proofs.ReadBackAtoms.{text_at, in_scope, Follows, follows_blank, closed_paren, Gives, leads, Goes, stops, ReadsTm, plain_whole, atom_spine}

@@ -5,9 +5,9 @@ use Rattle.hol_terms.specs.Ty.{Ty}
 use Rattle.hol_terms.specs.Tm.{Tm}
 use Rattle.hol_terms.specs.Signature.{Signature}
 use Rattle.hol_terms.specs.Text.{Text, is_plain, is_atom, printed}
-use Rattle.hol_text.specs.Tokens.{Kind, a_name, open_paren, close_paren, open_brace, open_bracket, the_end, Token, head_kind, tokens_from}
-use Rattle.hol_text.specs.Meaning.{means, Operand, operand}
-use Rattle.hol_text.specs.Reading.{Front, got, ◌>>=◌, Scope, Reader, atom_at, begins_atom, atoms_by, atoms_at, application_at, infix_by, term_by, term_at}
+use Rattle.hol_terms.specs.Tokens.{Kind, a_name, open_paren, close_paren, open_brace, open_bracket, the_end, Token, head_kind, tokens_from}
+use Rattle.hol_terms.specs.Meaning.{means, Operand, operand}
+use Rattle.hol_terms.specs.Reading.{Front, got, ◌>>=◌, Scope, Reader, atom_at, begins_atom, atoms_by, atoms_at, application_at, infix_by, term_by, term_at}
 use Rattle.hol_text.proofs.ReadBackTokens.{Ends, ends_text, ends_sign, at_blank, at_close_paren, at_end}
 use Rattle.hol_text.proofs.ReadBackBinders.{scope, opened}
 

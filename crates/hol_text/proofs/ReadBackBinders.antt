@@ -22,7 +22,7 @@ use Rattle.hol_terms.proofs.AsciiNames.{are_ascii_segments, is_ascii_more, is_na
 use Rattle.hol_terms.proofs.Opened.{var_self}
 use Rattle.hol_terms.proofs.Order.{var_eq-same}
 use Rattle.hol_terms.proofs.Tables.{same_bytes}
-use Rattle.hol_text.specs.Reading.{Scope, innermost, stand_in, is_dotted}
+use Rattle.hol_terms.specs.Reading.{Scope, innermost, stand_in, is_dotted}
 
 -- ---- numbered names
 

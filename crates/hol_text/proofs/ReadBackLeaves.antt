@@ -11,10 +11,10 @@ use Rattle.hol_terms.specs.Ty.{Ty, tys, ty_list, ty_list-tys}
 use Rattle.hol_terms.specs.Tm.{Tm, tm_index, tm_free, tm_const, FreeVar}
 use Rattle.hol_terms.specs.Signature.{Signature, tys_count, IsTyOver, AreTysOver, IsConstOver}
 use Rattle.hol_terms.specs.Text.{Text, with_commas, ty_text, tys_texts, bound_text}
-use Rattle.hol_text.specs.Tokens.{Kind, a_name, open_brace, open_bracket, Token, token, sign, head_kind, tokens_from}
-use Rattle.hol_text.specs.Meaning.{means, given, constant_by, constant_of, constant, operand}
-use Rattle.hol_text.specs.Reading.{got, ◌>>=◌, expect_by, is_close_brace, is_close_bracket, typed_at, Scope, innermost, plain_by, braces_at, name_by, free_of, atom_at, begins_atom, term_at}
-use Rattle.hol_text.specs.ReadsBack.{ReadsBack}
+use Rattle.hol_terms.specs.Tokens.{Kind, a_name, open_brace, open_bracket, Token, token, sign, head_kind, tokens_from}
+use Rattle.hol_terms.specs.Meaning.{means, given, constant_by, constant_of, constant, operand}
+use Rattle.hol_terms.specs.Reading.{got, ◌>>=◌, expect_by, is_close_brace, is_close_bracket, typed_at, Scope, innermost, plain_by, braces_at, name_by, free_of, atom_at, begins_atom, term_at}
+use Rattle.hol_terms.specs.ReadsBack.{ReadsBack}
 use Rattle.hol_text.proofs.ReadBackTokens.{Ends, ends_sign, at_open_brace, at_close_brace, at_open_bracket, at_close_bracket, at_colon, at_name}
 use Rattle.hol_text.proofs.ReadBackTypes.{has_names, Rest, as_many, commas_count, list_reads, reads_type, reads_types}
 use Rattle.hol_text.proofs.ReadBackBinders.{bound_name, scope, not_bound, Found, found}

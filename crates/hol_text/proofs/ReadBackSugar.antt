@@ -12,10 +12,10 @@ use Rattle.hol_terms.specs.Rules.{lambda}
 use Rattle.hol_terms.specs.Definition.{bool_ty, alpha, eq_ty}
 use Rattle.hol_terms.specs.Signature.{Signature, entry_at, IsTyOver, IsConstOver, IsOver}
 use Rattle.hol_terms.specs.Text.{Text, ty_text, bound_text, sugar, before, is_plain, is_atom, printed}
-use Rattle.hol_text.specs.Tokens.{Kind, a_name, equals, and_sign, or_sign, implies_sign, all_sign, ex_sign, Token, token, sign, head_kind, head_place, tail, tokens_from}
-use Rattle.hol_text.specs.Meaning.{means, given, constant, Operand, operand, apply, equation, connective, negation, abstraction, quantified}
-use Rattle.hol_text.specs.Reading.{Front, got, ◌>>=◌, expect_by, is_dot, typed_at, Scope, begins_atom, application_at, infix_by, bound_by, bound_at, Binder, body_at, binder_at, term_by, term_at}
-use Rattle.hol_text.specs.ReadsBack.{ReadsBack, signed}
+use Rattle.hol_terms.specs.Tokens.{Kind, a_name, equals, and_sign, or_sign, implies_sign, all_sign, ex_sign, Token, token, sign, head_kind, head_place, tail, tokens_from}
+use Rattle.hol_terms.specs.Meaning.{means, given, constant, Operand, operand, apply, equation, connective, negation, abstraction, quantified}
+use Rattle.hol_terms.specs.Reading.{Front, got, ◌>>=◌, expect_by, is_dot, typed_at, Scope, begins_atom, application_at, infix_by, bound_by, bound_at, Binder, body_at, binder_at, term_by, term_at}
+use Rattle.hol_terms.specs.ReadsBack.{ReadsBack, signed}
 use Rattle.hol_text.proofs.ReadBackTokens.{Ends, ends_sign, ends_dot, at_colon, at_dot, at_equals, at_and, at_or, at_implies, at_not, at_all, at_ex, at_lambda, at_name}
 use Rattle.hol_text.proofs.ReadBackTypes.{has_names, Rest, reads_type}
 use Rattle.hol_text.proofs.ReadBackBinders.{bound_name, bound_undotted, scope, opened_type, above, close}

@@ -6,7 +6,7 @@ use Rattle.hol_terms.specs.Ty.{Ty}
 use Rattle.hol_terms.specs.Tm.{Tm, tm_index, tm_free, tm_const, tm_comb, tm_abs, tm_size}
 use Rattle.hol_terms.specs.Signature.{Signature, IsOver}
 use Rattle.hol_terms.specs.Text.{Text, parenthesized, sugar, none, is_plain, is_atom}
-use Rattle.hol_text.specs.ReadsBack.{ReadsBack}
+use Rattle.hol_terms.specs.ReadsBack.{ReadsBack}
 use Rattle.hol_text.proofs.PrintLemmas.{tm_size-positive}
 use Rattle.hol_text.proofs.ReadBackAtoms.{text_at, ReadsTm}
 use Rattle.hol_text.proofs.ReadBackLeaves.{index_reads, constant_reads, free_reads}

@@ -12,7 +12,7 @@ use Rattle.unicode_ident.specs.Ident.{is_xid_start, is_xid_continue}
 use Rattle.unicode_ident.proofs.IdentLemmas.{is_xid_start-ascii, is_xid_continue-ascii}
 use Rattle.hol_terms.specs.Name.{Name, is_start, is_segment_of, on_step, are_segments_of, is_keyword, is_segment, is_name}
 use Rattle.hol_terms.specs.Text.{Text}
-use Rattle.hol_text.specs.Tokens.{a_name, a_variable, open_paren, close_paren, open_brace, close_brace, open_bracket, close_bracket, comma, colon, dot, equals, arrow, lambda_sign, all_sign, ex_sign, not_sign, and_sign, or_sign, implies_sign, the_end, token, sign, word_kind, word, letter, class_of, starts, starts_by, continues, continues_by, part_of, of_segment, of_dot, outside, State, between, in_name, after_dot, after_quote, in_variable, tokens_in, tokens_from}
+use Rattle.hol_terms.specs.Tokens.{a_name, a_variable, open_paren, close_paren, open_brace, close_brace, open_bracket, close_bracket, comma, colon, dot, equals, arrow, lambda_sign, all_sign, ex_sign, not_sign, and_sign, or_sign, implies_sign, the_end, token, sign, word_kind, word, letter, class_of, starts, starts_by, continues, continues_by, part_of, of_segment, of_dot, outside, State, between, in_name, after_dot, after_quote, in_variable, tokens_in, tokens_from}
 
 -- ---- signs
 

@@ -8,10 +8,10 @@ use Rattle.hol_terms.specs.Ty.{Ty, ty_var, ty_app, Tys, no_tys, more_tys, ty_lis
 use Rattle.hol_terms.specs.Typing.{fun_name, fun_ty}
 use Rattle.hol_terms.specs.Signature.{Signature, arity_of, tys_count, IsTyOver, AreTysOver}
 use Rattle.hol_terms.specs.Text.{Text, parenthesized, with_commas, is_arrow, is_function, ty_text, tys_texts}
-use Rattle.hol_text.specs.Tokens.{Kind, a_name, close_paren, close_brace, close_bracket, comma, dot, arrow, the_end, Token, token, head_kind, tokens_from}
-use Rattle.hol_text.specs.Meaning.{Meaning, means, Arguments, given, with_one, is_count, applied_by, applied, function}
-use Rattle.hol_text.specs.Reading.{Front, got, ◌>>=◌, expect_by, is_close_paren, postfix_by, postfix, more_types, types_at, tuple, group_by, dtype_at, range_by, type_at}
-use Rattle.hol_text.specs.ReadsBack.{ReadsBack}
+use Rattle.hol_terms.specs.Tokens.{Kind, a_name, close_paren, close_brace, close_bracket, comma, dot, arrow, the_end, Token, token, head_kind, tokens_from}
+use Rattle.hol_terms.specs.Meaning.{Meaning, means, Arguments, given, with_one, is_count, applied_by, applied, function}
+use Rattle.hol_terms.specs.Reading.{Front, got, ◌>>=◌, expect_by, is_close_paren, postfix_by, postfix, more_types, types_at, tuple, group_by, dtype_at, range_by, type_at}
+use Rattle.hol_terms.specs.ReadsBack.{ReadsBack}
 use Rattle.hol_text.proofs.ReadBackTokens.{Ends, ends_sign, at_blank, at_open_paren, at_close_paren, at_comma, at_arrow, at_name, at_variable}
 
 -- the names that a signature gives are names

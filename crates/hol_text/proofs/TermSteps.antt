@@ -1,12 +1,12 @@
 -- One level of the recursion on terms, and one turn of the loop over atoms.
 use Rattle.std.proofs.Common.{◌≡◌, refl, sym, ap, ◌∙◌, ℕ, zero, suc, ◌-◌, ◌<◌, List, Bool, true, false, arith}
 use Rattle.hol_terms.specs.Signature.{Signature}
-use Rattle.hol_text.specs.Tokens.{Kind, Token, head_kind, head_place}
-use Rattle.hol_text.specs.Meaning.{Operand, apply}
+use Rattle.hol_terms.specs.Tokens.{Kind, Token, head_kind, head_place}
+use Rattle.hol_terms.specs.Meaning.{Operand, apply}
 use Rattle.hol_text.specs.Reads.{Fails}
 use Rattle.hol_text.specs.declared.types.Stop.{Stop}
 use Rattle.hol_text.specs.declared.types.Stop.TheVariants.{Memory, Grammar}
-use Rattle.hol_text.specs.Reading.{Front, ◌>>=◌, got, stop, Scope, begins_atom, atoms_by, atoms_at, term_by, term_at}
+use Rattle.hol_terms.specs.Reading.{Front, ◌>>=◌, got, stop, Scope, begins_atom, atoms_by, atoms_at, term_by, term_at}
 
 pub term_step : (s : Signature) (n : ℕ) (b : Scope) (ts : List Token) → 0 < n →
     term_at s n b ts ≡ term_by (head_kind ts) s (term_at s (n - 1)) (n - 1) b ts

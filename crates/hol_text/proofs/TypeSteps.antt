@@ -2,15 +2,15 @@
 use Rattle.std.proofs.Common.{◌≡◌, refl, sym, ap, ◌∙◌, ℕ, zero, suc, ◌+◌, ◌-◌, ◌<◌, List, [], ◌∷◌, length-append, arith}
 use Rattle.hol_terms.specs.Ty.{Ty}
 use Rattle.hol_terms.specs.Signature.{Signature}
-use Rattle.hol_text.specs.Tokens.{Kind, Token, head_kind, head_place, tail}
-use Rattle.hol_text.specs.Meaning.{Meaning, means, fault, Arguments, given, faulty, count, with_one}
+use Rattle.hol_terms.specs.Tokens.{Kind, Token, head_kind, head_place, tail}
+use Rattle.hol_terms.specs.Meaning.{Meaning, means, fault, Arguments, given, faulty, count, with_one}
 use Rattle.hol_text.specs.TokenViews.{kind_of}
 use Rattle.hol_text.specs.Reads.{Fails}
 use Rattle.hol_text.specs.declared.types.Stop.{Stop}
 use Rattle.hol_text.specs.declared.types.Stop.TheVariants.{Memory, Grammar}
 use Rattle.hol_text.specs.declared.tokens.TokenKind.{TokenKind}
 use Rattle.hol_text.specs.declared.tokens.TokenKind.TheVariants.{Comma}
-use Rattle.hol_text.specs.Reading.{Front, ◌>>=◌, got, stop, more_types, types_at, range_by, dtype_at, type_at}
+use Rattle.hol_terms.specs.Reading.{Front, ◌>>=◌, got, stop, more_types, types_at, range_by, dtype_at, type_at}
 
 pub count-with_one : (a : Arguments) (m : Meaning Ty) → count (with_one a m) ≡ count a + 1
 count-with_one (given ts) (means t) = length-append ts (t ∷ [])

@@ -1,7 +1,7 @@
 -- What the public reader answered, beside what a text is.
 use Rattle.std.specs.Prelude.{◌≡◌, Result, Ok, Err, string_bytes}
-use Rattle.hol_text.specs.Reading as Read
-use Rattle.hol_text.specs.Reading.{Reading}
+use Rattle.hol_terms.specs.Reading as Read
+use Rattle.hol_terms.specs.Reading.{Reading}
 use Rattle.hol_text.specs.declared.read.ReadError.{ReadError}
 use Rattle.hol_text.specs.declared.read.ReadError.TheVariants.{Syntax, Unknown, IllTyped, Memory}
 

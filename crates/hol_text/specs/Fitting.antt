@@ -5,7 +5,7 @@ use Rattle.hol_terms.specs.Ty.{Ty}
 use Rattle.hol_terms.specs.Tm.{Tm}
 use Rattle.hol_terms.specs.Subst.{ty_cmp}
 use Rattle.hol_terms.specs.Loose.{IsClosedAt}
-use Rattle.hol_text.specs.Meaning.{Meaning, means, fault}
+use Rattle.hol_terms.specs.Meaning.{Meaning, means, fault}
 
 -- there are two types, the first of which is d
 abbrev pub first_of_two : List Ty → Ty → Bool

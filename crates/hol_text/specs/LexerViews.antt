@@ -1,6 +1,6 @@
 -- What the lexer's state stands for.
 use Rattle.std.specs.Prelude.{string_bytes}
-use Rattle.hol_text.specs.Tokens as Lex
+use Rattle.hol_terms.specs.Tokens as Lex
 use Rattle.hol_text.specs.declared.lexer.CharClass.{CharClass}
 use Rattle.hol_text.specs.declared.lexer.CharClass.TheVariants.{Blank, Hash, Quote, Zero, Letter, Minus, Equal, Slash, Backslash, Other}
 use Rattle.hol_text.specs.declared.lexer.Part.{Part}

@@ -1,16 +1,11 @@
 pub mod Answers
 pub mod BoundViews
 pub mod Fitting
-pub mod Grammar
 pub mod LexerViews
-pub mod Meaning
 pub mod MeaningViews
 pub mod Over
 pub mod Printing
-pub mod Reading
 pub mod Reads
-pub mod ReadsBack
 pub mod Samples
 pub mod ScopeViews
 pub mod TokenViews
-pub mod Tokens

@@ -1,6 +1,6 @@
 -- What the reader's values stand for.
 use Rattle.std.specs.Prelude.{string_bytes}
-use Rattle.hol_text.specs.Meaning as Read
+use Rattle.hol_terms.specs.Meaning as Read
 use Rattle.hol_text.specs.declared.meaning.Fault.{Fault}
 use Rattle.hol_text.specs.declared.meaning.Fault.TheVariants.{Unknown, IllTyped}
 use Rattle.hol_text.specs.declared.meaning.Meaning.{Meaning}

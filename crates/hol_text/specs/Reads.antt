@@ -1,7 +1,7 @@
 -- What a reader returned, beside what is read.
 use Rattle.std.specs.Prelude.{◌≡◌, List, Result, Ok, Err}
 use Rattle.std.specs.Borrow.{Bor}
-use Rattle.hol_text.specs.Reading.{Front, got, stop}
+use Rattle.hol_terms.specs.Reading.{Front, got, stop}
 use Rattle.hol_text.specs.TokenViews.{tokens_of}
 use Rattle.hol_text.specs.declared.tokens.Token.{Token}
 use Rattle.hol_text.specs.declared.types.Stop.{Stop}

@@ -6,7 +6,7 @@ use Rattle.hol_terms.specs.Typing.{fun_ty}
 use Rattle.hol_terms.specs.Definition.{start, bool_ty, ind_ty, eq_ty, alpha}
 use Rattle.hol_terms.specs.Signature.{Signature}
 use Rattle.hol_terms.specs.Sequent.{eq_tm}
-use Rattle.hol_text.specs.Reading.{reading_of_type, reading_of_term, reads, no_syntax, unknown, ill_typed}
+use Rattle.hol_terms.specs.Reading.{reading_of_type, reading_of_term, reads, no_syntax, unknown, ill_typed}
 
 abbrev pub binary : Ty
 binary = fun_ty bool_ty (fun_ty bool_ty bool_ty)

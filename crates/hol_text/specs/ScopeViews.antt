@@ -1,6 +1,6 @@
 -- What the reader's scope stands for.
 use Rattle.std.specs.Prelude.{[], ◌∷◌}
-use Rattle.hol_text.specs.Reading as Read
+use Rattle.hol_terms.specs.Reading as Read
 use Rattle.hol_text.specs.declared.scope.Scope.{Scope, Top, Binder'}
 
 abbrev pub scope_of : Scope → Read.Scope

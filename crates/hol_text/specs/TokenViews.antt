@@ -1,7 +1,7 @@
 -- What the values of the lexer stand for.
 use Rattle.std.specs.Prelude.{List, map, string_bytes}
-use Rattle.hol_text.specs.Tokens as Lex
-use Rattle.hol_text.specs.Tokens.{Kind, token, Part, of_segment, of_dot, outside}
+use Rattle.hol_terms.specs.Tokens as Lex
+use Rattle.hol_terms.specs.Tokens.{Kind, token, Part, of_segment, of_dot, outside}
 use Rattle.hol_text.specs.declared.tokens.TokenKind.{TokenKind}
 use Rattle.hol_text.specs.declared.tokens.TokenKind.TheVariants.{Name, Variable, Keyword, OpenParen, CloseParen, OpenBrace, CloseBrace, OpenBracket, CloseBracket, Comma, Colon, Semicolon, Dot, Bar, Equals, Arrow, Lambda, ForAll, Exists, Not, And, Or, Implies, End, Unknown}
 use Rattle.hol_text.specs.declared.tokens.Token.{Token}

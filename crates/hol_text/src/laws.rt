@@ -5,10 +5,10 @@ ghost use Rattle.hol_terms.specs.Ty.{Ty};
 ghost use Rattle.hol_terms.specs.Tm.{Tm};
 ghost use Rattle.hol_terms.specs.Signature.{Signature, IsTyOver, IsOver};
 ghost use Rattle.hol_terms.specs.Text.{Text, ty_text, tm_text};
-ghost use Rattle.hol_text.specs.Grammar.{IsType, IsTerm, before_end};
-ghost use Rattle.hol_text.specs.Reading.{reads, no_syntax, reading_of_type, reading_of_term};
-ghost use Rattle.hol_text.specs.ReadsBack.{ReadsBack};
-ghost use Rattle.hol_text.specs.Tokens.{tokens};
+ghost use Rattle.hol_terms.specs.Grammar.{IsType, IsTerm, before_end};
+ghost use Rattle.hol_terms.specs.Reading.{reads, no_syntax, reading_of_type, reading_of_term};
+ghost use Rattle.hol_terms.specs.ReadsBack.{ReadsBack};
+ghost use Rattle.hol_terms.specs.Tokens.{tokens};
 
 /// The canonical text of a type that is well formed over a signature reads as the type.
 pub fn types_read_back()

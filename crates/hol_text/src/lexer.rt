@@ -3,7 +3,7 @@
 ghost use Rattle.std.specs.Prelude.{◌≡◌, ◌==◌, ◌++◌, ◌∷◌, [], OnOk, IfOk, string_bytes};
 ghost use Rattle.std.specs.Char.{encode_utf8};
 ghost use Rattle.hol_terms.specs.Name.{is_keyword};
-ghost use Rattle.hol_text.specs.Tokens.{sign, word, word_kind, starts, continues, class_of, symbol_of, part_of, begin, name_by, dot_by, quote_by, variable_by, pair_by, equal_by, equals_by, step, last, tokens};
+ghost use Rattle.hol_terms.specs.Tokens.{sign, word, word_kind, starts, continues, class_of, symbol_of, part_of, begin, name_by, dot_by, quote_by, variable_by, pair_by, equal_by, equals_by, step, last, tokens};
 ghost use Rattle.hol_text.specs.TokenViews.{kind_of, tokens_of};
 ghost use Rattle.hol_text.specs.LexerViews.{class_view, part_view, state_of};
 
@@ -397,7 +397,7 @@ fn finish(alloc: Global, tokens: &mut Vec<Token>, state: State) -> Result<(), Al
 }
 
 /// The tokens of a text. The last one is the end.
-#[tactic(auto, unfolding(crate::specs::Tokens::tokens))]
+#[tactic(auto, unfolding(hol_terms::specs::Tokens::tokens))]
 pub(crate) fn tokens(alloc: Global, text: &str) -> Result<Vec<Token>, AllocError>
     ensures { IfOk result (λ v. tokens_of v.items ≡ tokens text.now) }
 {

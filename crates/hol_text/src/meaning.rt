@@ -6,7 +6,7 @@ ghost use Rattle.hol_terms.specs.TyVars.{ty_vars};
 ghost use Rattle.hol_terms.specs.Typing.{fun_ty, range_ty};
 ghost use Rattle.hol_terms.specs.Rules.{same_ty};
 ghost use Rattle.hol_text.specs.Fitting.{first_of_two, IsClosedMeaning};
-ghost use Rattle.hol_text.specs.Meaning.{unknown_at, given, first_fault, count, with_one, is_count, applied, function, constant_by, constant, fitted, apply, one_type, type_of, equation, connective, negation, abstraction, quantified};
+ghost use Rattle.hol_terms.specs.Meaning.{unknown_at, given, first_fault, count, with_one, is_count, applied, function, constant_by, constant, fitted, apply, one_type, type_of, equation, connective, negation, abstraction, quantified};
 ghost use Rattle.hol_text.specs.MeaningViews.{fault_of, meaning_of, arguments_of, operand_of};
 
 use hol_terms::sig::Sig;
@@ -134,7 +134,7 @@ fn has_arity(sig: &Sig, name: &str, count: usize) -> bool
 }
 
 /// The type of the name at `place`, applied to arguments.
-#[tactic(auto, unfolding(crate::specs::Meaning::applied))]
+#[tactic(auto, unfolding(hol_terms::specs::Meaning::applied))]
 pub(crate) fn applied(
     alloc: Global,
     sig: &Sig,
@@ -165,7 +165,7 @@ pub(crate) fn applied(
 }
 
 /// The function type whose arrow is at `place`.
-#[tactic(auto, unfolding(crate::specs::Meaning::function))]
+#[tactic(auto, unfolding(hol_terms::specs::Meaning::function))]
 pub(crate) fn function(
     alloc: Global,
     sig: &Sig,
@@ -181,7 +181,7 @@ pub(crate) fn function(
 }
 
 /// The constant of the name at `place`, with type arguments in the order of first occurrence in its generic type.
-#[tactic(auto, unfolding(crate::specs::Meaning::constant))]
+#[tactic(auto, unfolding(hol_terms::specs::Meaning::constant))]
 pub(crate) fn constant(
     alloc: Global,
     sig: &Sig,
@@ -257,7 +257,7 @@ fn is_from(t: &HolType, domain: &HolType) -> bool
 }
 
 /// The application of two terms, whose first token is at `place`.
-#[tactic(auto, using(crate::proofs::Fits::takes_if), unfolding(crate::specs::Meaning::fitted))]
+#[tactic(auto, using(crate::proofs::Fits::takes_if), unfolding(hol_terms::specs::Meaning::fitted))]
 fn fitted(
     alloc: Global,
     place: usize,
@@ -285,7 +285,7 @@ fn fitted(
 }
 
 /// The application of two operands.
-#[tactic(auto, unfolding(crate::specs::Meaning::apply))]
+#[tactic(auto, unfolding(hol_terms::specs::Meaning::apply))]
 pub(crate) fn apply(alloc: Global, f: Operand, x: Operand) -> Result<Operand, AllocError>
     ensures { IfOk result (λ o. operand_of o ≡ apply (operand_of f) (operand_of x)) }
 {
@@ -330,7 +330,7 @@ fn type_of(alloc: Global, term: &Meaning<Term>) -> Result<Meaning<HolType>, Allo
 }
 
 /// `a = b`, with the sign at `place`.
-#[tactic(auto, unfolding(crate::specs::Meaning::equation))]
+#[tactic(auto, unfolding(hol_terms::specs::Meaning::equation))]
 pub(crate) fn equation(
     alloc: Global,
     sig: &Sig,
@@ -348,7 +348,7 @@ pub(crate) fn equation(
 }
 
 /// `a /\ b`, `a \/ b` or `a ==> b`, with the sign of the constant at `place`.
-#[tactic(auto, unfolding(crate::specs::Meaning::connective))]
+#[tactic(auto, unfolding(hol_terms::specs::Meaning::connective))]
 pub(crate) fn connective(
     alloc: Global,
     sig: &Sig,
@@ -366,7 +366,7 @@ pub(crate) fn connective(
 }
 
 /// `~ a`, with the sign at `place`.
-#[tactic(auto, unfolding(crate::specs::Meaning::negation))]
+#[tactic(auto, unfolding(hol_terms::specs::Meaning::negation))]
 pub(crate) fn negation(
     alloc: Global,
     sig: &Sig,
@@ -401,7 +401,7 @@ pub(crate) fn abstraction(
 }
 
 /// `!x:t. b` or `?x:t. b`, of the abstraction, with the sign of the constant at `place`.
-#[tactic(auto, unfolding(crate::specs::Meaning::quantified))]
+#[tactic(auto, unfolding(hol_terms::specs::Meaning::quantified))]
 pub(crate) fn quantified(
     alloc: Global,
     sig: &Sig,

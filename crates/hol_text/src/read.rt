@@ -5,9 +5,9 @@ ghost use Rattle.hol_terms.specs.Signature.{IsTyOver, IsOver};
 ghost use Rattle.hol_text.specs.Answers.{Answers};
 ghost use Rattle.hol_text.specs.MeaningViews.{meaning_of};
 ghost use Rattle.hol_text.specs.Over.{GivesTypes};
-ghost use Rattle.hol_text.specs.Reading.{ended, reading_of_type, reading_of_term};
+ghost use Rattle.hol_terms.specs.Reading.{ended, reading_of_type, reading_of_term};
 ghost use Rattle.hol_text.specs.TokenViews.{tokens_of};
-ghost use Rattle.hol_text.specs.Tokens as Lex;
+ghost use Rattle.hol_terms.specs.Tokens as Lex;
 ghost use Rattle.hol_text.specs.declared.read.ReadError.TheVariants.{Memory};
 
 use crate::lexer::tokens;
@@ -68,7 +68,7 @@ fn ended<T: Drop>(meaning: Meaning<T>, rest: &[Token]) -> Result<T, ReadError>
 }
 
 /// The type that the text is.
-#[tactic(auto, unfolding(crate::specs::Reading::reading_of_type))]
+#[tactic(auto, unfolding(hol_terms::specs::Reading::reading_of_type))]
 fn whole_type(alloc: Global, sig: &Sig, text: &str) -> Result<HolType, ReadError>
     ensures { Answers result (reading_of_type sig.now text.now) }
 {
@@ -81,7 +81,7 @@ fn whole_type(alloc: Global, sig: &Sig, text: &str) -> Result<HolType, ReadError
 }
 
 /// The term that the text is.
-#[tactic(auto, unfolding(crate::specs::Reading::reading_of_term))]
+#[tactic(auto, unfolding(hol_terms::specs::Reading::reading_of_term))]
 fn whole_term(alloc: Global, sig: &Sig, text: &str) -> Result<Term, ReadError>
     ensures { Answers result (reading_of_term sig.now text.now) }
 {

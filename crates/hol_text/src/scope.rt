@@ -2,7 +2,7 @@
 
 ghost use Rattle.std.specs.Prelude.{◌≡◌, IfOk};
 ghost use Rattle.std.specs.Option.{option_copied};
-ghost use Rattle.hol_text.specs.Reading.{innermost, stand_in};
+ghost use Rattle.hol_terms.specs.Reading.{innermost, stand_in};
 ghost use Rattle.hol_text.specs.ScopeViews.{scope_of};
 
 use hol_terms::terms::Var;

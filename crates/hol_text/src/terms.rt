@@ -1,14 +1,14 @@
 //! Reads a term.
 
 ghost use Rattle.std.specs.Prelude.{◌≡◌, ◌<◌, ◌≤◌, ◌^◌, IfOk};
-ghost use Rattle.hol_text.specs.Meaning.{abstraction};
+ghost use Rattle.hol_terms.specs.Meaning.{abstraction};
 ghost use Rattle.hol_text.specs.MeaningViews.{meaning_of, arguments_of, operand_of};
-ghost use Rattle.hol_text.specs.Reading.{is_dot, is_close_brace, is_close_bracket, is_name_token, type_or_none, is_dotted, innermost, plain_by, free_of, begins_atom, braces_at, name_by, free_by, atom_at, atoms_at, application_at, infix_by, bound_at, body_at, binder_at, term_at};
+ghost use Rattle.hol_terms.specs.Reading.{is_dot, is_close_brace, is_close_bracket, is_name_token, type_or_none, is_dotted, innermost, plain_by, free_of, begins_atom, braces_at, name_by, free_by, atom_at, atoms_at, application_at, infix_by, bound_at, body_at, binder_at, term_at};
 ghost use Rattle.hol_text.specs.Reads.{Gives};
 ghost use Rattle.hol_text.specs.ScopeViews.{scope_of};
 ghost use Rattle.hol_text.specs.BoundViews.{bound_of};
 ghost use Rattle.hol_text.specs.TokenViews.{kind_of, tokens_of};
-ghost use Rattle.hol_text.specs.Tokens as Lex;
+ghost use Rattle.hol_terms.specs.Tokens as Lex;
 
 use crate::meaning::{
     Arguments, Meaning, Operand, abstraction, apply, connective, constant, equation, negation,
@@ -63,7 +63,7 @@ fn is_dotted(name: &str) -> bool
 }
 
 /// Type arguments, up to the closing brace.
-#[tactic(auto, unfolding(crate::specs::Reading::braces_at))]
+#[tactic(auto, unfolding(hol_terms::specs::Reading::braces_at))]
 fn braces_at<'a>(
     alloc: Global,
     sig: &Sig,
@@ -161,7 +161,7 @@ fn bracketed<'a>(
 
 /// A name, a free variable, or a term in parentheses.
 #[cycle(terms)]
-#[tactic(auto, unfolding(crate::specs::Reading::atom_at))]
+#[tactic(auto, unfolding(hol_terms::specs::Reading::atom_at))]
 fn atom_at<'a>(
     alloc: Global,
     sig: &Sig,
@@ -216,7 +216,7 @@ fn atoms_at<'a>(
 
 /// An atom and its arguments.
 #[cycle(terms)]
-#[tactic(auto, unfolding(crate::specs::Reading::application_at))]
+#[tactic(auto, unfolding(hol_terms::specs::Reading::application_at))]
 fn application_at<'a>(
     alloc: Global,
     sig: &Sig,
@@ -268,7 +268,7 @@ fn infix<'a>(
 }
 
 /// The name of a binder, which has no dot.
-#[tactic(auto, unfolding(crate::specs::Reading::bound_at))]
+#[tactic(auto, unfolding(hol_terms::specs::Reading::bound_at))]
 fn bound_at(tokens: &[Token]) -> Result<(&str, &[Token]), Stop>
     ensures { Gives (λ n. n.now) result (bound_at (tokens_of tokens.now)) }
 {
@@ -294,7 +294,7 @@ fn type_or_none(alloc: Global, ty: &Meaning<HolType>) -> Result<HolType, AllocEr
 
 /// The body of a binder of the name at a type. Binding walks the body.
 #[cycle(terms)]
-#[tactic(auto, using(crate::proofs::ClosedTerms::closed_lemmas), unfolding(crate::specs::Reading::body_at))]
+#[tactic(auto, using(crate::proofs::ClosedTerms::closed_lemmas), unfolding(hol_terms::specs::Reading::body_at))]
 fn body_at<'a>(
     alloc: Global,
     sig: &Sig,
@@ -317,7 +317,7 @@ fn body_at<'a>(
 
 /// What follows the sign of a binder.
 #[cycle(terms)]
-#[tactic(auto, unfolding(crate::specs::Reading::binder_at))]
+#[tactic(auto, unfolding(hol_terms::specs::Reading::binder_at))]
 fn binder_at<'a>(
     alloc: Global,
     sig: &Sig,

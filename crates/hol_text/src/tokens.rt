@@ -1,7 +1,7 @@
 //! Tokens, and the front of a list of them.
 
 ghost use Rattle.std.specs.Prelude.{◌≡◌, ◌<◌, ◌++◌, ◌∷◌, [], length, OnOk};
-ghost use Rattle.hol_text.specs.Tokens.{token, head_kind, head_text, head_place, tail};
+ghost use Rattle.hol_terms.specs.Tokens.{token, head_kind, head_text, head_place, tail};
 ghost use Rattle.hol_text.specs.TokenViews.{kind_of, tokens_of};
 
 use std::alloc::{AllocError, Global};

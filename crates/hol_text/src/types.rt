@@ -1,12 +1,12 @@
 //! Reads a type.
 
 ghost use Rattle.std.specs.Prelude.{◌≡◌, ◌+◌, ◌<◌, ◌≤◌, ◌^◌};
-ghost use Rattle.hol_text.specs.Meaning.{count};
+ghost use Rattle.hol_terms.specs.Meaning.{count};
 ghost use Rattle.hol_text.specs.MeaningViews.{meaning_of, arguments_of};
-ghost use Rattle.hol_text.specs.Reading.{is_dot, is_colon, is_name_token, is_close_paren, is_close_brace, is_close_bracket, postfix, types_at, tuple, group_by, dtype_at, type_at, typed_at};
+ghost use Rattle.hol_terms.specs.Reading.{is_dot, is_colon, is_name_token, is_close_paren, is_close_brace, is_close_bracket, postfix, types_at, tuple, group_by, dtype_at, type_at, typed_at};
 ghost use Rattle.hol_text.specs.Reads.{Gives};
 ghost use Rattle.hol_text.specs.TokenViews.{kind_of, tokens_of};
-ghost use Rattle.hol_text.specs.Tokens as Lex;
+ghost use Rattle.hol_terms.specs.Tokens as Lex;
 ghost use Rattle.hol_text.specs.declared.types.Stop.TheVariants.{Memory, Grammar};
 
 use crate::meaning::{Arguments, Meaning, applied, function, no_types, one_type, with_one};
@@ -141,7 +141,7 @@ fn group<'a>(
 
 /// A type that is no function type by an arrow outside parentheses.
 #[cycle(types)]
-#[tactic(auto, unfolding(crate::specs::Reading::dtype_at))]
+#[tactic(auto, unfolding(hol_terms::specs::Reading::dtype_at))]
 fn dtype_at<'a>(
     alloc: Global,
     sig: &Sig,
@@ -202,7 +202,7 @@ pub(crate) fn is_colon(kind: TokenKind) -> bool
 }
 
 /// A type behind a colon.
-#[tactic(auto, unfolding(crate::specs::Reading::typed_at))]
+#[tactic(auto, unfolding(hol_terms::specs::Reading::typed_at))]
 pub(crate) fn typed_at<'a>(
     alloc: Global,
     sig: &Sig,

@@ -1,13 +1,13 @@
 -- The base definitions by their places, and their signatures.
-use Rattle.std.proofs.Common.{◌≡◌, ℕ, zero, suc, ◌+◌, true, List, [], ◌∷◌, ◌++◌, take, slice_get, Some, refl, ap, sym, ◌∙◌, add-one, append-nil}
+use Rattle.std.proofs.Common.{◌≡◌, ℕ, zero, suc, ◌+◌, true, List, [], ◌∷◌, ◌++◌, take, slice_get, Some, refl, ap, ◌∙◌, add-one}
 use Rattle.std.proofs.lemmas.Bool.{and_from}
 use Rattle.hol_terms.specs.Name.{dot_abs, dot_rep}
-use Rattle.hol_terms.specs.Definition.{Definition, const_def, type_def, types_of, consts_of, with_def, signature_of}
+use Rattle.hol_terms.specs.Definition.{Definition, const_def, type_def, with_def, signature_of}
 use Rattle.hol_terms.specs.Base.{base, base_definitions}
 use Rattle.hol_terms.specs.Table.{introduces_new, IsPredicateOf}
 use Rattle.hol_terms.specs.WellFormed.{IsWellFormed}
 use Rattle.hol_terms.proofs.Defining.{may_introduce-new}
-use Rattle.hol_terms.proofs.Weaken.{types-append, consts-append}
+use Rattle.hol_terms.proofs.Weaken.{signature_of-push}
 use Rattle.hol_terms.proofs.BaseTyped.{base_well_formed}
 
 take-push : {X : Type 0} (xs : List X) (k : ℕ) (x : X) → slice_get xs k ≡ Some x → take k xs ++ x ∷ [] ≡ take (suc k) xs
@@ -38,13 +38,6 @@ base_new k d e = new_by (base k) d (base_well_formed k d e)
 
 pub base_predicate : (k : ℕ) (d : Definition) → slice_get base_definitions k ≡ Some d → IsPredicateOf d
 base_predicate k d e = predicate_by (base k) d (base_well_formed k d e)
-
--- the signature of one definition more
-signature_of-push : (ds : List Definition) (d : Definition) → with_def (signature_of ds) d ≡ signature_of (ds ++ d ∷ [])
-signature_of-push ds d =
-    let t : (signature_of ds).types ++ types_of d ≡ (signature_of (ds ++ d ∷ [])).types = ap (λ ns. (signature_of ds).types ++ ns) (sym (append-nil (types_of d))) ∙ sym (types-append ds (d ∷ [])) in
-    let c : (signature_of ds).consts ++ consts_of d ≡ (signature_of (ds ++ d ∷ [])).consts = ap (λ ns. (signature_of ds).consts ++ ns) (sym (append-nil (consts_of d))) ∙ sym (consts-append ds (d ∷ [])) in
-    λ i. record { types = t i; consts = c i }
 
 pub next_signature : (k : ℕ) (d : Definition) → slice_get base_definitions k ≡ Some d → with_def (signature_of (base k)) d ≡ signature_of (base (k + 1))
 next_signature k d e = signature_of-push (base k) d ∙ ap signature_of (base-push k d e)

@@ -8,9 +8,9 @@ use Rattle.hol_terms.specs.Rules.{same_ty}
 use Rattle.hol_terms.specs.Signature.{Signature}
 use Rattle.hol_terms.specs.Definition.{signature_of}
 use Rattle.hol_terms.specs.Base.{base_definitions}
-use Rattle.hol_text.specs.Tokens.{tokens}
-use Rattle.hol_text.specs.Meaning.{applied, function, constant, fitted, apply, equation, connective, negation, quantified}
-use Rattle.hol_text.specs.Reading.{types_at, dtype_at, type_at, typed_at, braces_at, atom_at, atoms_at, application_at, bound_at, body_at, binder_at, term_at, reading_of_term, Reading, reads, no_syntax, unknown, ill_typed}
+use Rattle.hol_terms.specs.Tokens.{tokens}
+use Rattle.hol_terms.specs.Meaning.{applied, function, constant, fitted, apply, equation, connective, negation, quantified}
+use Rattle.hol_terms.specs.Reading.{types_at, dtype_at, type_at, typed_at, braces_at, atom_at, atoms_at, application_at, bound_at, body_at, binder_at, term_at, reading_of_term, Reading, reads, no_syntax, unknown, ill_typed}
 use Rattle.stmt_core.specs.declared.facts.Fact.{Fact}
 use Rattle.stmt_core.specs.declared.facts.Fact.TheVariants.{Logic, Product, Sum}
 use Rattle.stmt_core.specs.declared.facts.LogicFact.{LogicFact}

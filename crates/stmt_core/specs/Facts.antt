@@ -4,7 +4,7 @@ use Rattle.hol_terms.specs.Tm.{Tm}
 use Rattle.hol_terms.specs.Definition.{signature_of}
 use Rattle.hol_terms.specs.Base.{base_definitions}
 use Rattle.hol_terms.specs.Text.{Text}
-use Rattle.hol_text.specs.Reading.{reads, reading_of_term}
+use Rattle.hol_terms.specs.Reading.{reads, reading_of_term}
 use Rattle.stmt_core.specs.declared.facts.Fact.{Fact}
 use Rattle.stmt_core.specs.declared.facts.Fact.TheVariants.{Logic, Product, Sum}
 use Rattle.stmt_core.specs.declared.facts.LogicFact.{LogicFact}

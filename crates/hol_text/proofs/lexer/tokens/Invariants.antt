@@ -1,6 +1,6 @@
 use Rattle.std.proofs.Common.{◌≡◌, ◌+◌, ◌++◌, length}
 use Rattle.std.specs.Str.{chars, IsUtf8}
-use Rattle.hol_text.specs.Tokens.{tokens, tokens_in}
+use Rattle.hol_terms.specs.Tokens.{tokens, tokens_in}
 use Rattle.hol_text.specs.TokenViews.{tokens_of}
 use Rattle.hol_text.specs.LexerViews.{state_of}
 use Rattle.hol_text.proofs.lexer.tokens.Given as goal

@@ -1,6 +1,6 @@
 use Rattle.std.proofs.Common.{◌≡◌, ◌+◌, ◌-◌, ◌*◌}
 use Rattle.hol_text.specs.MeaningViews.{operand_of}
-use Rattle.hol_text.specs.Reading.{atom_at, atoms_at, term_at}
+use Rattle.hol_terms.specs.Reading.{atom_at, atoms_at, term_at}
 use Rattle.hol_text.specs.ScopeViews.{scope_of}
 use Rattle.hol_text.specs.TokenViews.{tokens_of}
 use Rattle.hol_text.proofs.terms.+terms.Given as goal

@@ -1,7 +1,7 @@
 use Rattle.std.proofs.Common.{◌≡◌, ◌≤◌, ◌+◌, ◌-◌, ◌*◌}
-use Rattle.hol_text.specs.Meaning.{count}
+use Rattle.hol_terms.specs.Meaning.{count}
 use Rattle.hol_text.specs.MeaningViews.{arguments_of}
-use Rattle.hol_text.specs.Reading.{types_at, type_at}
+use Rattle.hol_terms.specs.Reading.{types_at, type_at}
 use Rattle.hol_text.specs.TokenViews.{tokens_of}
 use Rattle.hol_text.proofs.types.+types.Given as goal
 

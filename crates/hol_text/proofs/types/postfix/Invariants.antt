@@ -1,6 +1,6 @@
 use Rattle.std.proofs.Common.{◌≡◌, length}
 use Rattle.hol_text.specs.MeaningViews.{meaning_of}
-use Rattle.hol_text.specs.Reading.{postfix}
+use Rattle.hol_terms.specs.Reading.{postfix}
 use Rattle.hol_text.specs.TokenViews.{tokens_of}
 use Rattle.hol_text.proofs.types.postfix.Given as goal
 

@@ -1,8 +1,8 @@
 -- The grammar of types and terms, over tokens. Each constructor is one production.
 use Rattle.std.specs.Prelude.{◌≡◌, false, List, [], ◌∷◌, ◌++◌}
 use Rattle.hol_terms.specs.Name.{Name}
-use Rattle.hol_text.specs.Tokens.{Kind, a_name, a_variable, open_paren, close_paren, open_brace, close_brace, open_bracket, close_bracket, comma, colon, dot, equals, arrow, lambda_sign, all_sign, ex_sign, not_sign, and_sign, or_sign, implies_sign, the_end, Token, token}
-use Rattle.hol_text.specs.Reading.{is_dotted}
+use Rattle.hol_terms.specs.Tokens.{Kind, a_name, a_variable, open_paren, close_paren, open_brace, close_brace, open_bracket, close_bracket, comma, colon, dot, equals, arrow, lambda_sign, all_sign, ex_sign, not_sign, and_sign, or_sign, implies_sign, the_end, Token, token}
+use Rattle.hol_terms.specs.Reading.{is_dotted}
 
 abbrev pub kind : Token → Kind
 kind (token k w p) = k

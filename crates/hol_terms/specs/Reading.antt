@@ -8,8 +8,8 @@ use Rattle.hol_terms.specs.Ty.{Ty, ty_var}
 use Rattle.hol_terms.specs.Tm.{Tm, tm_free, FreeVar}
 use Rattle.hol_terms.specs.Signature.{Signature}
 use Rattle.hol_terms.specs.Text.{Text}
-use Rattle.hol_text.specs.Tokens.{Kind, a_name, a_variable, open_paren, close_paren, open_brace, close_brace, open_bracket, close_bracket, comma, colon, dot, equals, arrow, lambda_sign, all_sign, ex_sign, not_sign, and_sign, or_sign, implies_sign, the_end, Token, tokens, head_kind, head_text, head_place, tail}
-use Rattle.hol_text.specs.Meaning.{unknown_at, ill_at, Meaning, means, fault, Arguments, given, with_one, applied, function, constant, Operand, operand, apply, equation, connective, negation, abstraction, quantified}
+use Rattle.hol_terms.specs.Tokens.{Kind, a_name, a_variable, open_paren, close_paren, open_brace, close_brace, open_bracket, close_bracket, comma, colon, dot, equals, arrow, lambda_sign, all_sign, ex_sign, not_sign, and_sign, or_sign, implies_sign, the_end, Token, tokens, head_kind, head_text, head_place, tail}
+use Rattle.hol_terms.specs.Meaning.{unknown_at, ill_at, Meaning, means, fault, Arguments, given, with_one, applied, function, constant, Operand, operand, apply, equation, connective, negation, abstraction, quantified}
 
 -- a value, and the tokens after it; or the place of a token that the grammar does not have there
 pub data Front (A : Type 0) : Type 0 where
