@@ -1,0 +1,4 @@
+pub mod Had
+pub mod Over
+pub mod Base
+pub mod Given

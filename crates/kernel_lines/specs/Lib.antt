@@ -1,0 +1,4 @@
+pub mod Names
+pub mod Bases
+pub mod Lines
+pub mod Ready

@@ -1,0 +1,2 @@
+pub mod Hypotheses
+pub mod Rules
