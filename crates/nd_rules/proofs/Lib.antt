@@ -1,2 +1,5 @@
 pub mod Hypotheses
 pub mod Rules
+pub mod BinderLemmas
+pub mod BinderSteps
+pub mod BinderCases

@@ -1,3 +1,5 @@
 pub mod Facts
 pub mod Shapes
 pub mod Connectives
+pub mod Binders
+pub mod Quantifiers

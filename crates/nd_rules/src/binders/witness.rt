@@ -191,7 +191,12 @@ fn in_place(alloc: Global, p: &Term, t: &Term) -> Result<Vec<(Var, Term)>, Alloc
 
 /// `|- P t ==> ex P`, where P takes terms of the type of t.
 #[tactic(auto, using(hol_conv::proofs::RuleLemmas::grows_lemmas))]
-pub(super) fn witnessed(alloc: Global, k: &mut Kernel, p: &Term, t: &Term) -> Result<Thm, AllocError>
+pub(super) fn witnessed(
+    alloc: Global,
+    k: &mut Kernel,
+    p: &Term,
+    t: &Term,
+) -> Result<Thm, AllocError>
     requires base { HasBase k.old.defs }
     requires over_p { IsOver (signature_of k.old.defs) [] p.now }
     requires over_t { IsOver (signature_of k.old.defs) [] t.now }
