@@ -1,13 +1,9 @@
 //! The derived rules of natural deduction over the kernel, each with its exact sequent.
 #![tactic(auto)]
 
-#[cfg(test)]
-mod binder_tests;
 pub mod binders;
 pub mod connectives;
 mod fact_tables;
 mod facts;
 mod operands;
 mod rule_tables;
-#[cfg(test)]
-mod tests;
