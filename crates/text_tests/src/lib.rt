@@ -1,0 +1,5 @@
+//! Tests of reading and printing over a signature with declared types.
+#![tactic(auto)]
+
+#[cfg(test)]
+mod lists;
