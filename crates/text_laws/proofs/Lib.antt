@@ -1,0 +1,3 @@
+pub mod Entries
+pub mod Given
+pub mod Named

@@ -1,0 +1,21 @@
+//! Laws of the signatures that definitions give: each function does nothing, and its contract is the law.
+
+ghost use Rattle.std.specs.Prelude.{List};
+ghost use Rattle.hol_terms.specs.Base.{base};
+ghost use Rattle.hol_terms.specs.Definition.{Definition, signature_of};
+ghost use Rattle.hol_terms.specs.Proves.{AreConservative, IsPrefix};
+ghost use Rattle.hol_terms.specs.ReadsBack.{ReadsBack};
+ghost use Rattle.hol_text.specs.Over.{GivesTypes};
+
+/// Definitions that are conservative, each after those before it, give a signature in which `fun` takes two arguments and the
+/// generic type of each constant is well formed.
+pub fn definitions_give_types()
+    ensures { (ds : List Definition) → AreConservative ds → GivesTypes (signature_of ds) }
+{}
+
+/// Definitions that are conservative, each after those before it, and begin with the ten that define the connectives and the
+/// quantifiers give a signature over which canonical text reads back: its types and constants are called by names, no constant
+/// is called as canonical text calls bound variables, and each constant that has a sign has its generic type of HOL Light.
+pub fn definitions_read_back()
+    ensures { (ds : List Definition) → AreConservative ds → IsPrefix (base 10) ds → ReadsBack (signature_of ds) }
+{}

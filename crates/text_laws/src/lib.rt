@@ -1,0 +1,6 @@
+//! Laws of the signatures that definitions give: what is read over them and printed from them meets the laws of reading.
+#![tactic(auto)]
+
+pub mod laws;
+#[cfg(test)]
+mod lists;
