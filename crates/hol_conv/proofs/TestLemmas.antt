@@ -1,5 +1,5 @@
 -- Terms of the tests.
-use Rattle.std.proofs.Common.{◌≡◌, List, [], ◌∷◌, refl, sym, ap, subst}
+use Rattle.std.proofs.Common.{◌≡◌, ◌∙◌, append-nil, List, [], ◌∷◌, refl, sym, ap, subst}
 use Rattle.hol_terms.specs.Tm.{Tm, tm_free, tm_comb}
 use Rattle.hol_terms.specs.Typing.{tm_type}
 use Rattle.hol_terms.specs.Signature.{Signature, IsOver}
@@ -38,7 +38,7 @@ pub expansion_redex : (t : Tm) → t ≡ expansion → IsEtaRedex t
 expansion_redex t e = subst IsEtaRedex (sym e) (record { shape = refl; closed = tt })
 
 pub started : (ds : List Definition) → ds ≡ base 10 → HasBase ds
-started ds e = record { is = ([], e) }
+started ds e = record { is = ([], e ∙ sym (append-nil (base 10))) }
 
 pub ruleset eta_samples = (expansion_over, expansion_redex, started)
 
