@@ -1,6 +1,10 @@
 pub mod Entries
 pub mod Given
 pub mod Named
+pub mod TermAgains
+pub mod TermRefusals
+pub mod TermStops
+pub mod TermsRead
 pub mod TypeEnds
 pub mod TypeRefusals
 pub mod TypeStops

@@ -118,7 +118,7 @@ abbrev pub Unended : List Token → Type 0
 Unended [] = Unit {0}
 Unended (x ∷ ts) = (is_end (kind x) ≡ false) × Unended ts
 
-joined : (a b : List Token) → Unended a → Unended b → Unended (a ++ b)
+pub joined : (a b : List Token) → Unended a → Unended b → Unended (a ++ b)
 joined [] b h g = g
 joined (x ∷ a) b h g = (h.0, joined a b h.1 g)
 
@@ -134,7 +134,7 @@ mutual
   domain_unended _ (of_several t ts o x c n e h f hs g i) = (ap is_end e, joined t (x ∷ (ts ++ c ∷ n ∷ [])) (type_unended t h) (ap is_end f, joined ts (c ∷ n ∷ []) (types_unended ts hs) (ap is_end g, (ap is_end i, tt))))
   domain_unended _ (of_one d n h e) = joined d (n ∷ []) (domain_unended d h) (ap is_end e, tt)
 
-  types_unended : (ts : List Token) → AreTypes ts → Unended ts
+  pub types_unended : (ts : List Token) → AreTypes ts → Unended ts
   types_unended _ (one t h) = type_unended t h
   types_unended _ (more t ts x h e g) = joined t (x ∷ ts) (type_unended t h) (ap is_end e, types_unended ts g)
 

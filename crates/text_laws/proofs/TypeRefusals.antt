@@ -19,7 +19,7 @@ use Rattle.text_laws.proofs.TypeStops.{TypeAlways, type_stop}
 
 -- ---- a text has its end among its tokens
 
-abbrev has_end : List Token → Bool
+abbrev pub has_end : List Token → Bool
 has_end [] = false
 has_end (x ∷ ts) = is_end (kind x) || has_end ts
 
@@ -31,24 +31,24 @@ text_ends : (s : State) (p : ℕ) (cs : List ℕ) → has_end (tokens_in s p cs)
 text_ends s p [] = end_behind (last s) (sign the_end p ∷ []) refl
 text_ends s p (c ∷ cs) = end_behind (step s p c).0 (tokens_in (step s p c).1 (p + length (encode_utf8 c)) cs) (text_ends (step s p c).1 (p + length (encode_utf8 c)) cs)
 
-tokens_end : (t : Text) → has_end (tokens t) ≡ true
+pub tokens_end : (t : Text) → has_end (tokens t) ≡ true
 unfolding tokens
 tokens_end t = text_ends between 0 (chars t)
 
-end_past : (a b : List Token) → Unended a → has_end (a ++ b) ≡ true → has_end b ≡ true
+pub end_past : (a b : List Token) → Unended a → has_end (a ++ b) ≡ true → has_end b ≡ true
 end_past [] b u h = h
 end_past (x ∷ a) b u h = end_past a b u.1 (subst (λ (e : Bool). (e || has_end (a ++ b)) ≡ true) u.0 h)
 
-prefix_unended : (a b : List Token) → Unended (a ++ b) → Unended a
+pub prefix_unended : (a b : List Token) → Unended (a ++ b) → Unended a
 prefix_unended [] b h = tt
 prefix_unended (x ∷ a) b h = (h.0, prefix_unended a b h.1)
 
 -- ---- the first wrong token
 
-abbrev refused_at : (A : Type 0) → ℕ → Reading A
+abbrev pub refused_at : (A : Type 0) → ℕ → Reading A
 refused_at A p = no_syntax p
 
-same_place : {A : Type 0} (q p : ℕ) → refused_at A q ≡ refused_at A p → q ≡ p
+pub same_place : {A : Type 0} (q p : ℕ) → refused_at A q ≡ refused_at A p → q ≡ p
 same_place q p e = cc
 
 is_syntax : {A : Type 0} → Reading A → Bool
@@ -58,7 +58,7 @@ is_syntax r = false
 differ : false ≡ true → ⊥
 differ e = cc
 
-no_fault : {A : Type 0} (m : Meaning A) (p : ℕ) → reading_of m ≡ no_syntax p → ⊥
+pub no_fault : {A : Type 0} (m : Meaning A) (p : ℕ) → reading_of m ≡ no_syntax p → ⊥
 unfolding is_syntax
 no_fault (means x) p e = differ (ap is_syntax e)
 no_fault (fault (unknown_at n q)) p e = differ (ap is_syntax e)
@@ -70,7 +70,7 @@ begins_none s front (token k w q) rest p al more h =
     let x = token k w q in
     let n = length (front ++ x ∷ more) + 1 in
     let r = type_read s (front ++ x ∷ more) h n [] (omega arith) refl in
-    let e = al n (omega (arith, length-append front (x ∷ more))) (x ∷ more) (record { kinds = refl; places = refl }) in
+    let e = al n (omega (arith, length-append front (x ∷ more))) (x ∷ more) (record { kinds = refl; texts = refl; places = refl }) in
     unlike p r.value [] (sym e ∙ ap (type_at s n) (sym (append-nil (front ++ x ∷ more))) ∙ r.is)
 
 stopped : (s : Signature) (ts front rest : List Token) (p : ℕ) → ts ≡ front ++ rest → has_end rest ≡ true → head_place rest ≡ p → (more : List Token) → IsType (front ++ more) → TypeAlways s p front rest → FirstWrong IsType ts p

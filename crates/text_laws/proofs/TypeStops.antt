@@ -12,18 +12,18 @@ use Rattle.text_laws.proofs.TypesRead.{head_is, domain_read, postfix_arrow, type
 
 -- ---- steps that stop
 
-abbrev stop_in : (A : Type 0) → ℕ → Front A
+abbrev pub stop_in : (A : Type 0) → ℕ → Front A
 stop_in A p = stop p
 
 pub stop_place : {A : Type 0} (q p : ℕ) → stop_in A q ≡ stop_in A p → q ≡ p
 stop_place q p e = cc
 
 -- one step of two stops
-data Stops {A B : Type 0} (x : Front A) (f : A → List Token → Front B) (p : ℕ) : Type 0 where
+pub data Stops {A B : Type 0} (x : Front A) (f : A → List Token → Front B) (p : ℕ) : Type 0 where
   early : x ≡ stop p → Stops x f p
   late : (v : A) (mid : List Token) → x ≡ got v mid → f v mid ≡ stop p → Stops x f p
 
-stops : {A B : Type 0} (x : Front A) (f : A → List Token → Front B) (p : ℕ) → (x >>= f) ≡ stop p → Stops x f p
+pub stops : {A B : Type 0} (x : Front A) (f : A → List Token → Front B) (p : ℕ) → (x >>= f) ≡ stop p → Stops x f p
 stops (got v mid) f p e = late v mid refl e
 stops (stop q) f p e = early (ap stop (stop_place q p e))
 
@@ -33,11 +33,11 @@ postfix_goes_on s t (token a_name w q ∷ ts) p e = postfix_goes_on s (applied s
 postfix_goes_on s t (token k w q ∷ ts) p e = unlike p t (token k w q ∷ ts) (sym e)
 
 -- a test of the next token failed
-record Failed (b : Bool) (ts : List Token) (p : ℕ) : Type 0 where
-  not_so : b ≡ false
-  place : head_place ts ≡ p
+pub record Failed (b : Bool) (ts : List Token) (p : ℕ) : Type 0 where
+  pub not_so : b ≡ false
+  pub place : head_place ts ≡ p
 
-expect_fails : {A : Type 0} (b : Bool) (x : A) (ts : List Token) (p : ℕ) → expect_by b x ts ≡ stop p → Failed b ts p
+pub expect_fails : {A : Type 0} (b : Bool) (x : A) (ts : List Token) (p : ℕ) → expect_by b x ts ≡ stop p → Failed b ts p
 expect_fails true x ts p e = unlike p x (tail ts) (sym e)
 expect_fails false x ts p e = record { not_so = refl; place = stop_place (head_place ts) p e }
 
@@ -47,9 +47,10 @@ tuple_fails false s args ts p e = record { not_so = refl; place = stop_place (he
 
 -- ---- what is to be shown
 
--- the next token is of the same kind, at the same place
+-- the next token is of the same kind and text, at the same place
 pub record Alike (a b : List Token) : Type 0 where
   pub kinds : head_kind a ≡ head_kind b
+  pub texts : head_text a ≡ head_text b
   pub places : head_place a ≡ head_place b
 
 pub record Wrong (IsForm : List Token → Type 0) (Always : List Token → List Token → Type 0) (ts : List Token) (p : ℕ) : Type 0 where
@@ -66,31 +67,31 @@ TypeAlways s p front rest = (m : ℕ) → length front < m → (others : List To
 abbrev DomainAlways : Signature → ℕ → List Token → List Token → Type 0
 DomainAlways s p front rest = (m : ℕ) → length front ≤ m → (others : List Token) → Alike others rest → dtype_at s (type_at s m) m (front ++ others) ≡ stop p
 
-abbrev TypesAlways : Signature → ℕ → List Token → List Token → Type 0
+abbrev pub TypesAlways : Signature → ℕ → List Token → List Token → Type 0
 TypesAlways s p front rest = (m k : ℕ) (args : Arguments) → length front < m → length front < k → (others : List Token) → Alike others rest → types_at (type_at s m) k args (front ++ others) ≡ stop p
 
-abbrev WrongType : Signature → List Token → ℕ → Type 0
+abbrev pub WrongType : Signature → List Token → ℕ → Type 0
 WrongType s ts p = Wrong IsType (TypeAlways s p) ts p
 
 abbrev WrongDomain : Signature → List Token → ℕ → Type 0
 WrongDomain s ts p = Wrong IsDomain (DomainAlways s p) ts p
 
-abbrev WrongTypes : Signature → List Token → ℕ → Type 0
+abbrev pub WrongTypes : Signature → List Token → ℕ → Type 0
 WrongTypes s ts p = Wrong AreTypes (TypesAlways s p) ts p
 
-abbrev TypeStops : Signature → ℕ → Type 0
+abbrev pub TypeStops : Signature → ℕ → Type 0
 TypeStops s n = (ts : List Token) (p : ℕ) → size ts ≤ n → type_at s n ts ≡ stop p → WrongType s ts p
 
-abbrev some_name : Token
+abbrev pub some_name : Token
 some_name = token a_name [] 0
 
-abbrev some_close : Token
+abbrev pub some_close : Token
 some_close = token close_paren [] 0
 
 name_domain : IsDomain (some_name ∷ [])
 name_domain = constructor some_name refl
 
-name_type : IsType (some_name ∷ [])
+pub name_type : IsType (some_name ∷ [])
 name_type = a_domain (some_name ∷ []) name_domain
 
 -- ---- domains
@@ -297,7 +298,7 @@ types_step s n k ih again args ts p l g (late t mid was next) =
     let f = type_form s n ts mid t was in
     types_behind s n k again (with_one args t) ts f.front mid p l g f.form f.is next
 
-types_stop : (s : Signature) (n : ℕ) → TypeStops s n → (k : ℕ) (args : Arguments) (ts : List Token) (p : ℕ) → size ts ≤ n → size ts ≤ k → types_at (type_at s n) k args ts ≡ stop p → WrongTypes s ts p
+pub types_stop : (s : Signature) (n : ℕ) → TypeStops s n → (k : ℕ) (args : Arguments) (ts : List Token) (p : ℕ) → size ts ≤ n → size ts ≤ k → types_at (type_at s n) k args ts ≡ stop p → WrongTypes s ts p
 unfolding types_at
 types_stop s n ih zero args ts p l g e = types_from_type s ts p (ended_stops s ts p (size_zero ts g) (stop_place (head_place ts) p e))
 types_stop s n ih (suc k) args ts p l g e =

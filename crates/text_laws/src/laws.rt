@@ -1,4 +1,4 @@
-//! Laws of the signatures that definitions give: each function does nothing, and its contract is the law.
+//! Laws of the signatures that definitions give, and of refusals: each function does nothing, and its contract is the law.
 
 ghost use Rattle.std.specs.Prelude.{◌≡◌, ℕ, List};
 ghost use Rattle.hol_terms.specs.Base.{base};
@@ -6,10 +6,10 @@ ghost use Rattle.hol_terms.specs.Definition.{Definition, signature_of};
 ghost use Rattle.hol_terms.specs.Proves.{AreConservative, IsPrefix};
 ghost use Rattle.hol_terms.specs.Signature.{Signature};
 ghost use Rattle.hol_terms.specs.Text.{Text};
-ghost use Rattle.hol_terms.specs.Reading.{no_syntax, reading_of_type};
+ghost use Rattle.hol_terms.specs.Reading.{no_syntax, reading_of_type, reading_of_term};
 ghost use Rattle.hol_terms.specs.ReadsBack.{ReadsBack};
 ghost use Rattle.hol_terms.specs.Tokens.{tokens};
-ghost use Rattle.hol_terms.specs.Grammar.{IsType};
+ghost use Rattle.hol_terms.specs.Grammar.{IsType, IsTerm};
 ghost use Rattle.hol_text.specs.Over.{GivesTypes};
 ghost use Rattle.text_laws.specs.Refusals.{FirstWrong};
 
@@ -30,4 +30,10 @@ pub fn definitions_read_back()
 /// type begins with these and that token. Where the text ends too early, that token is its end.
 pub fn types_are_refused_at_the_first_wrong_token()
     ensures { (s : Signature) (t : Text) (p : ℕ) → reading_of_type s t ≡ no_syntax p → FirstWrong IsType (tokens t) p }
+{}
+
+/// A text that is refused as a term for its syntax is refused at its first wrong token: the tokens before it begin a term, and no
+/// term begins with these and that token. Where the text ends too early, that token is its end.
+pub fn terms_are_refused_at_the_first_wrong_token()
+    ensures { (s : Signature) (t : Text) (p : ℕ) → reading_of_term s t ≡ no_syntax p → FirstWrong IsTerm (tokens t) p }
 {}
