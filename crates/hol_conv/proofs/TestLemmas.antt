@@ -10,7 +10,7 @@ use Rattle.hol_conv.specs.Conv.{IsRedex}
 use Rattle.hol_terms.specs.Base.{base}
 use Rattle.kernel_lines.specs.Bases.{HasBase}
 use Rattle.hol_conv.specs.Eta.{IsEtaRedex, function_between}
-use Rattle.hol_conv.specs.Samples.{truth, identity, expansion}
+use Rattle.hol_conv.specs.Samples.{truth, identity, expansion, expanded_function}
 use Rattle.hol_conv.proofs.EtaLemmas.{function_over}
 
 pub redex_over : (ds : List Definition) (t r : Tm) → r ≡ tm_comb identity t → tm_type t ≡ bool_ty → IsOver (signature_of ds) [] t → IsOver (signature_of ds) [] r
@@ -37,9 +37,12 @@ expansion_over ds t e =
 pub expansion_redex : (t : Tm) → t ≡ expansion → IsEtaRedex t
 expansion_redex t e = subst IsEtaRedex (sym e) (record { shape = refl; closed = tt })
 
+pub expansion_typed : (t f : Tm) → t ≡ expansion → f ≡ expanded_function → tm_type t ≡ tm_type f
+expansion_typed t f e d = rw (e, d) refl
+
 pub started : (ds : List Definition) → ds ≡ base 10 → HasBase ds
 started ds e = record { is = ([], e ∙ sym (append-nil (base 10))) }
 
-pub ruleset eta_samples = (expansion_over, expansion_redex, started)
+pub ruleset eta_samples = (expansion_over, expansion_redex, expansion_typed, started)
 
 pub ruleset sample_lemmas = (redex_over, redex_type, is_redex, truth_type, both_over)

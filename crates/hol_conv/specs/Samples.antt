@@ -11,6 +11,9 @@ truth = tm_const (codes "T") [] bool_ty
 abbrev pub identity : Tm
 identity = tm_abs bool_ty (tm_index 0 bool_ty)
 
--- `\x. f x`, for a function f on truth values
+-- a function f on truth values, and `\x. f x`
+abbrev pub expanded_function : Tm
+expanded_function = tm_free (function_between bool_ty bool_ty)
+
 abbrev pub expansion : Tm
-expansion = expanded (tm_free (function_between bool_ty bool_ty))
+expansion = expanded expanded_function

@@ -6,7 +6,7 @@ ghost use Rattle.hol_terms.specs.Signature.{IsOver};
 ghost use Rattle.hol_terms.specs.Definition.{bool_ty, signature_of};
 ghost use Rattle.hol_terms.specs.Sequent.{eq_tm};
 ghost use Rattle.hol_conv.specs.Conv.{IsRedex};
-ghost use Rattle.hol_conv.specs.Samples.{truth, identity, expansion};
+ghost use Rattle.hol_conv.specs.Samples.{truth, identity, expansion, expanded_function};
 
 use crate::beta::{beta_conv, beta_norm};
 use crate::eta::eta_conv;
@@ -136,7 +136,7 @@ fn equations_rewrite(rt: HostRuntime) -> Result<(), Fail> {
 
 // `\x. f x` and f, for a function f on truth values.
 fn expansion(alloc: Global) -> Result<(Term, Term), AllocError>
-    ensures { IfOk result (λ r. r.0 ≡ expansion) }
+    ensures { IfOk result (λ r. (r.0 ≡ expansion) × (r.1 ≡ expanded_function)) }
 {
     let truth = HolType::app(alloc, "bool", &[])?;
     let ty = HolType::fun(alloc, &truth, &truth)?;
@@ -150,18 +150,26 @@ fn expansion(alloc: Global) -> Result<(Term, Term), AllocError>
 }
 
 #[tactic(auto, using(crate::proofs::TestLemmas::eta_samples))]
-fn contracted(alloc: Global) -> Result<(Thm, Term, Term), AllocError> {
+fn contracted(alloc: Global) -> Result<Thm, AllocError> {
     let mut k = kernel_lines::start(alloc)?;
-    let (t, f) = expansion(alloc)?;
+    let (t, _) = expansion(alloc)?;
     let th = eta_conv(alloc, &mut k, &t)?;
-    Ok((th, t, f))
+    Ok(th)
+}
+
+// `(\x. f x) = f`.
+#[tactic(auto, using(crate::proofs::TestLemmas::eta_samples))]
+fn contraction(alloc: Global) -> Result<Term, AllocError> {
+    let (t, f) = expansion(alloc)?;
+    let equation = Term::mk_eq(alloc, &t, &f)?;
+    Ok(equation)
 }
 
 #[test]
 fn an_expanded_function_is_the_function(rt: HostRuntime) -> Result<(), Fail> {
-    let (th, t, f) = contracted(rt.alloc())?;
+    let th = contracted(rt.alloc())?;
+    let want = contraction(rt.alloc())?;
     assert!(rt; th.hyps().is_empty());
-    assert!(rt; th.concl().left().is_same(&t));
-    assert!(rt; th.concl().right().is_same(&f));
+    assert!(rt; th.concl().is_same(&want));
     Ok(())
 }
