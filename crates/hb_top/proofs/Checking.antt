@@ -1,60 +1,26 @@
--- The four outputs answer their inputs, are sound, and are laid out.
-use Rattle.std.proofs.Common.{◌≡◌, ◌≢◌, ◌+◌, ◌<◌, ◌≤◌, Bool, true, false, List, [], ◌∷◌, ◌++◌, length, take, refl, sym, ap, ◌∙◌, subst, codes, append_assoc, append-nil, eqb-true, arith}
-use Rattle.hol_terms.specs.Text.{Text, ty_text, tm_text, definition_line, theorem_line}
-use Rattle.hol_terms.specs.Definition.{Definition, const_def}
-use Rattle.hol_terms.specs.Sequent.{eq_tm}
-use Rattle.hol_terms.specs.Typing.{tm_type}
-use Rattle.hol_terms.specs.TyVars.{own_const}
-use Rattle.hol_terms.specs.Base.{base}
-use Rattle.hb_top.specs.Command.{Define, IsDefine, define_text, term_of}
-use Rattle.hol_terms.specs.Name.{Name}
-use Rattle.hol_terms.specs.Tm.{Tm}
-use Rattle.hol_terms.specs.Proves.{IsConstDef}
-use Rattle.std.proofs.lemmas.Bool.{true≢false}
+-- How the output is put together.
+use Rattle.std.proofs.Common.{◌≡◌, ◌≢◌, ℕ, ◌+◌, Bool, true, false, not, List, [], ◌∷◌, ◌++◌, length, take, Option, Some, None, Result, Ok, Err, IfOk, refl, sym, ap, ◌∙◌, subst, codes, append_assoc, append-nil, eqb-true, arith, cond}
 use Rattle.std.specs.Prelude.{◌==◌}
-use Rattle.hb_top.specs.Answer.{limit, in_force, base_line, IsAnswer, answers}
+use Rattle.std.specs.List.{list_any}
+use Rattle.std.specs.Option.{option_map}
+use Rattle.hol_terms.specs.Signature.{Signature}
+use Rattle.std.specs.Fmt.{decimal}
+use Rattle.std.proofs.lemmas.Bool.{true≢false}
+use Rattle.hol_terms.specs.Definition.{Definition, signature_of}
+use Rattle.hol_terms.specs.Base.{base}
+use Rattle.hol_terms.specs.Text.{Text}
+use Rattle.hol_kernel.specs.Fault.{const_fault}
+use Rattle.theory_text.specs.Command.{Define, define_of}
+use Rattle.theory_text.specs.Definable.{IsDefinable}
+use Rattle.theory_text.specs.Views.{define_view}
+use Rattle.theory_text.specs.declared.command.DefineCommand.{DefineCommand}
+use Rattle.theory_text.proofs.Stated.{stated_definable}
+use Rattle.hb_top.specs.Answer.{limit, in_force, base_line, is_refusal}
 use Rattle.hb_top.specs.Layout.{unlines}
-use Rattle.hb_top.specs.Headline.{IsCheck, HasAnswer}
-use Rattle.hb_top.proofs.OutputLines.{is_line}
-use Rattle.hb_top.proofs.NoNewline.{line_append, command_lines}
-use Rattle.hb_top.proofs.Defined.{command_defines}
-use Rattle.hb_top.proofs.Written.{one_command}
-use Rattle.hb_top.proofs.Outputs.{AreLines, out_limit, out_nothing, out_unbuilt, out_defined, answer_limit, answer_nothing, answer_unbuilt, answer_defined, refusal_limit, refusal_nothing, refusal_unbuilt, refusal_defined, sound_limit, sound_nothing, sound_unbuilt, sound_defined, owned_limit, owned_nothing, owned_unbuilt, owned_defined, answer_of_front, one_answer}
-
-line_of_four : (a b c d : Text) → is_line a ≡ true → is_line b ≡ true → is_line c ≡ true → is_line d ≡ true → is_line (a ++ b ++ c ++ d) ≡ true
-line_of_four a b c d p q r s = line_append (a ++ b ++ c) d (line_append (a ++ b) c (line_append a b p q) r) s
-
-printed_lines : (d : Define) → IsDefine d → AreLines d
-printed_lines d h =
-    let l = command_lines d h in
-    let ty : is_line (ty_text (tm_type (term_of d))) ≡ true = ap (λ t. is_line (ty_text t)) h.typed ∙ l.ty in
-    let named : is_line (d.name ++ codes ".def") ≡ true = line_append d.name (codes ".def") l.name refl in
-    record {
-      name = l.name;
-      definition = line_append (codes "def " ++ d.name ++ codes " : " ++ ty_text (tm_type (term_of d)) ++ codes " = ") (tm_text (term_of d))
-          (line_append (codes "def " ++ d.name ++ codes " : " ++ ty_text (tm_type (term_of d))) (codes " = ") (line_of_four (codes "def ") d.name (codes " : ") (ty_text (tm_type (term_of d))) refl l.name refl ty) refl) l.body;
-      fact = line_of_four (codes "thm ") (d.name ++ codes ".def") (codes " : ") (tm_text (eq_tm (own_const d.name d.ty) (term_of d))) refl named refl l.fact;
-    }
-
-pub check_limit : (b out : Text) → limit < length b → out ≡ out_limit → IsCheck b out true
-check_limit b out l e = subst (λ o. IsCheck b o true) (sym e) (record { answer = answer_limit b l; decided = refusal_limit; sound = sound_limit; owned = owned_limit })
-
-pub check_nothing : (b out : Text) → b ≡ [] → out ≡ out_nothing → IsCheck b out false
-check_nothing b out n e = subst (λ o. IsCheck b o false) (sym e) (record { answer = answer_nothing b n; decided = refusal_nothing; sound = sound_nothing; owned = owned_nothing })
-
-pub check_unbuilt : (b out : Text) → length b ≤ limit → b ≢ [] → ((d : Define) → IsDefine d → b ≢ define_text d) → out ≡ out_unbuilt → IsCheck b out true
-check_unbuilt b out l n u e =
-    subst (λ o. IsCheck b o true) (sym e) (record { answer = answer_unbuilt b l (record { not_empty = n; no_define = u }); decided = refusal_unbuilt; sound = sound_unbuilt; owned = owned_unbuilt })
-
-pub check_defined : (b out : Text) (d : Define) → length b ≤ limit → IsDefine d → b ≡ define_text d → out ≡ out_defined d → IsCheck b out false
-check_defined b out d l h t e =
-    let lines = printed_lines d h in
-    subst (λ o. IsCheck b o false) (sym e) (record {
-      answer = answer_defined b d l h t lines;
-      decided = refusal_defined d lines;
-      sound = sound_defined d lines (command_defines d h) h.typed;
-      owned = owned_defined d lines;
-    })
+use Rattle.hb_top.specs.Headline.{IsCheck}
+use Rattle.hb_top.specs.Outcome.{is_conservative, defined_lines, refused_lines, IsOutputOf}
+use Rattle.hb_top.proofs.BaseTypes.{base_gives_types}
+use Rattle.hb_top.proofs.Outputs.{answer_front}
 
 -- one line more
 unlines-push : (ls : List Text) (l : Text) → unlines ls ++ l ++ 10 ∷ [] ≡ unlines (ls ++ l ∷ [])
@@ -74,14 +40,12 @@ section_pushed b n x d y f t1 t2 t3 t4 t5 e1 e2 e3 e4 e5 p q =
 
 -- what holds of the front of an input holds of the whole
 pub check_front : (b out : Text) (refused : Bool) → IsCheck (take (limit + 1) b) out refused → IsCheck b out refused
-check_front b out refused h = record { answer = answer_of_front b (answers out) h.answer; decided = h.decided; sound = h.sound; owned = h.owned }
-
-pub has_answer : (b out : Text) (refused : Bool) → IsCheck b out refused → HasAnswer b refused
-has_answer b out refused h = (answers out, h.answer, h.decided)
-
--- a text has one answer
-pub answer_once : (b : Text) (l m : List Text) → IsAnswer b l → IsAnswer b m → l ≡ m
-answer_once b l m h g = one_answer one_command b l m h g
+check_front b out refused h = record {
+  answered = h.answered ∙ answer_front b;
+  decided = subst (λ (a : List Text). list_any is_refusal a ≡ refused) (answer_front b) h.decided;
+  sound = h.sound;
+  owned = h.owned;
+}
 
 -- tests of an input
 pub no_bytes : (b : Text) (t : Bool) → t ≡ (length b == 0) → t ≡ true → b ≡ []
@@ -92,13 +56,40 @@ pub some_bytes : (b : Text) (t : Bool) → t ≡ (length b == 0) → t ≡ false
 some_bytes [] t e h = absurd (true≢false (sym e ∙ h))
 some_bytes (x ∷ b) t e h = λ n. cc
 
--- what was read may be defined
-pub read_fits : (ds : List Definition) (n : Name) (b : Tm) (d : Define) → ds ≡ base in_force → n ≡ d.name → b ≡ term_of d → IsDefine d → IsConstDef ds n b
-read_fits ds n b d e f g h = rw (e, f, g) (command_defines d h)
+-- a definition that the text states
+pub definable_here : (b : Text) (d : Define) → define_of (signature_of (base in_force)) b ≡ Some d → IsDefinable (signature_of (base in_force)) d
+definable_here b d e = stated_definable (signature_of (base in_force)) b d base_gives_types e
 
--- the output that was made of what was read
-pub out_as : (n : Name) (b : Tm) (d : Define) → n ≡ d.name → b ≡ term_of d → IsDefine d
-    → unlines (base_line ∷ (codes "command 1 define " ++ n) ∷ definition_line (const_def n b) ∷ theorem_line (n ++ codes ".def") (eq_tm (own_const n (tm_type b)) b) ∷ []) ≡ out_defined d
-out_as n b d e f h =
-    let ty : tm_type b ≡ d.ty = ap tm_type f ∙ h.typed in
-    λ i. unlines (base_line ∷ (codes "command 1 define " ++ e i) ∷ definition_line (const_def (e i) (f i)) ∷ theorem_line (e i ++ codes ".def") (eq_tm (own_const (e i) (ty i)) (f i)) ∷ [])
+pub fits_here : (ds : List Definition) (d : Define) → ds ≡ base in_force → IsDefinable (signature_of (base in_force)) d → is_conservative d ≡ true → const_fault ds d.name d.body ≡ None
+fits_here ds d e h c = rw e (rw (h.named, h.closed, c) refl)
+
+pub as_defined : (d : Define) (out : Text) (r : Bool) → is_conservative d ≡ true → out ≡ unlines (defined_lines d) → r ≡ false → IsOutputOf d out r
+as_defined d out r c e f = record { text = e ∙ ap (λ (t : Bool). unlines (cond t (defined_lines d) (refused_lines d))) (sym c); decided = f ∙ ap not (sym c) }
+
+pub as_refused : (d : Define) (out : Text) (r : Bool) → is_conservative d ≡ false → out ≡ unlines (refused_lines d) → r ≡ true → IsOutputOf d out r
+as_refused d out r c e f = record { text = e ∙ ap (λ (t : Bool). unlines (cond t (defined_lines d) (refused_lines d))) (sym c); decided = f ∙ ap not (sym c) }
+
+-- the refusal of a type variable, from the pieces that were pushed
+pub stray_pushed : (s w w1 w2 w3 w4 v t : Text) (p q : ℕ) → w1 ≡ codes "conservativity '" → w2 ≡ w1 ++ w → w ≡ s → w3 ≡ w2 ++ codes " " → w4 ≡ w3 ++ decimal q → q ≡ p → v ≡ w4
+    → t ≡ unlines (base_line ∷ (codes "refused " ++ v) ∷ []) → t ≡ unlines (base_line ∷ (codes "refused conservativity '" ++ s ++ codes " " ++ decimal p) ∷ [])
+stray_pushed s w w1 w2 w3 w4 v t p q e1 e2 e e3 e4 f e5 e6 =
+    e6 ∙ ap (λ x. unlines (base_line ∷ (codes "refused " ++ x) ∷ [])) (e5 ∙ e4 ∙ (λ i. (e3 ∙ ap (λ x. x ++ codes " ") (e2 ∙ (λ j. e1 j ++ e j))) i ++ decimal (f i)))
+
+-- what holds of a result by two of its facts
+pub both_ok : {X E : Type 0} {P Q R : X → Type 0} (r : Result X E) → IfOk r P → IfOk r Q → ((x : X) → P x → Q x → R x) → IfOk r R
+both_ok (Ok x) p q f = f x p q
+both_ok (Err e) p q f = tt
+
+pub one_ok : {X E : Type 0} {P R : X → Type 0} (r : Result X E) → IfOk r P → ((x : X) → P x → R x) → IfOk r R
+one_ok (Ok x) p f = f x p
+one_ok (Err e) p f = tt
+
+-- a definition among the options
+pub no_define : (o : Option DefineCommand) (s : Signature) (b : Text) → option_map define_view o ≡ define_of s b → o ≡ None → define_of s b ≡ None
+no_define o s b e n = sym e ∙ ap (option_map define_view) n
+
+pub a_define : (o : Option DefineCommand) (c : DefineCommand) (s : Signature) (b : Text) → option_map define_view o ≡ define_of s b → o ≡ Some c → define_of s b ≡ Some (define_view c)
+a_define o c s b e n = sym e ∙ ap (option_map define_view) n
+
+pub over_base : (s : Signature) (ds : List Definition) (b : Text) (o : Option Define) → s ≡ signature_of ds → ds ≡ base in_force → define_of s b ≡ o → define_of (signature_of (base in_force)) b ≡ o
+over_base s ds b o e d h = ap (λ (t : Signature). define_of t b) (sym (e ∙ ap signature_of d)) ∙ h

@@ -1,235 +1,181 @@
--- The outputs of `check`: nothing, one `define`, an input over the limit, and what isn't read. What each answers, that it is sound,
--- and how it is laid out.
-use Rattle.std.proofs.Common.{◌≡◌, ◌≢◌, ℕ, ◌+◌, ◌<◌, ◌≤◌, ◌⊎◌, inl, inr, arith, true, false, Decides, List, [], ◌∷◌, ◌++◌, All, length, take, take_all, length-take, codes, refl, ap, sym, ◌∙◌, subst}
+-- The outputs of `check`: nothing, one `define`, its refusal, an input over the limit, and what isn't read. What each answers, that it
+-- is sound, and how it is laid out.
+use Rattle.std.proofs.Common.{◌≡◌, ◌≢◌, inl, inr, ◌+◌, ◌<◌, ◌≤◌, arith, Bool, true, false, cond, not, ◌&&◌, List, [], ◌∷◌, ◌++◌, All, filter, length, take, take_all, length-take, codes, Option, Some, None, refl, ap, sym, ◌∙◌, subst}
+use Rattle.std.specs.Prelude.{nat_lt}
 use Rattle.std.specs.List.{list_all, list_any, flat_map}
-use Rattle.std.specs.Fmt.{digits}
-use Rattle.std.proofs.lemmas.Bool.{false≢true}
+use Rattle.std.specs.Fmt.{decimal, digits}
+use Rattle.std.proofs.lemmas.Bool.{and_parts, cases_lt}
+use Rattle.std.proofs.lemmas.Bool.Decides.{nat_tests}
 use Rattle.std.proofs.lemmas.List.Elements.{All-nil, All-cons}
-use Rattle.hol_terms.specs.Name.{Name}
-use Rattle.hol_terms.specs.Ty.{Ty}
-use Rattle.hol_terms.specs.Tm.{Tm}
+use Rattle.hol_terms.specs.Name.{is_name, is_numbered}
 use Rattle.hol_terms.specs.Typing.{tm_type}
 use Rattle.hol_terms.specs.TyVars.{own_const}
-use Rattle.hol_terms.specs.Definition.{Definition, const_def}
-use Rattle.hol_terms.specs.Sequent.{seq, eq_tm}
-use Rattle.hol_terms.specs.Proves.{IsConstDef, AreConservative, IsDerivable}
-use Rattle.hol_terms.specs.Text.{Text, definition_line, theorem_line}
-use Rattle.hol_terms.specs.Sound.{AreSoundAfter, IsSound}
+use Rattle.hol_terms.specs.Signature.{is_new}
+use Rattle.hol_terms.specs.Definition.{Definition, const_def, signature_of}
+use Rattle.hol_terms.specs.Sequent.{eq_tm}
+use Rattle.hol_terms.specs.Proves.{IsConstDef, AreConservative}
+use Rattle.hol_terms.specs.Text.{Text, ty_text, tm_text, definition_line}
+use Rattle.hol_terms.specs.Sound.{AreSoundAfter}
 use Rattle.hol_terms.specs.Base.{base}
 use Rattle.hol_terms.proofs.Defining.{const_derivable}
 use Rattle.hol_terms.proofs.BaseTyped.{base_conservative}
-use Rattle.hb_top.specs.Command.{Define, IsDefine, define_text, term_of}
-use Rattle.hb_top.specs.Answer.{limit, base_line, section_line, define_fact, IsUnbuilt, IsAnswer, over_limit, nothing, defined, unbuilt, is_refusal, answers}
-use Rattle.hb_top.specs.Layout.{unlines, Section, section_lines, IsTheoremLine, accepted, refused, IsOwned}
+use Rattle.hol_terms.proofs.Typed.{IsOver-type}
+use Rattle.theory_text.specs.Command.{Define, define_of}
+use Rattle.theory_text.specs.Definable.{IsDefinable}
+use Rattle.hb_top.specs.Answer.{limit, in_force, base_line, section_line, define_fact, stray_line, limit_line, unbuilt_line, command_lines, text_lines, answer, is_refusal, is_answer_line}
+use Rattle.hb_top.specs.Layout.{unlines, Section, section_lines, IsTheoremLine, IsEnding, accepted, refused}
+use Rattle.hb_top.specs.Headline.{IsCheck}
+use Rattle.hb_top.specs.Outcome.{is_conservative, defined_lines, refused_lines, IsOutputOf}
 use Rattle.hb_top.proofs.OutputLines.{is_line, answers_read, sound_from_lines, owned_from_lines}
+use Rattle.hb_top.proofs.Lines.{line_append, segment_line, name_line, decimal_line, base_lines, is_type_line, type_is_line, type_line, is_term_line, term_is_line, term_line, fact_line}
 
-abbrev pub limit_line : Text
-limit_line = codes "refused limit input 1048576"
+-- ---- the answer to each kind of text
 
-abbrev pub unbuilt_line : Text
-unbuilt_line = codes "refused unbuilt - 0"
+pub answer_limit : (b : Text) → limit < length b → answer b ≡ base_line ∷ limit_line ∷ []
+answer_limit b h =
+    let long : nat_lt limit (length b) ≡ true = grind (arith, nat_tests) in
+    ap (λ t. base_line ∷ cond t (limit_line ∷ []) (text_lines b)) long
 
-abbrev pub def_line : Define → Text
-def_line d = definition_line (const_def d.name (term_of d))
+pub answer_short : (b : Text) → length b ≤ limit → answer b ≡ base_line ∷ text_lines b
+answer_short b h =
+    let short : nat_lt limit (length b) ≡ false = grind (arith, nat_tests) in
+    ap (λ t. base_line ∷ cond t (limit_line ∷ []) (text_lines b)) short
 
--- the answer lines to each kind of input
-abbrev pub nothing_answer : List Text
-nothing_answer = base_line ∷ []
+pub text_lines-some : (b : Text) → b ≢ [] → text_lines b ≡ command_lines (define_of (signature_of (base in_force)) b)
+text_lines-some [] n = absurd (n refl)
+text_lines-some (c ∷ b) n = refl
 
-abbrev pub defined_answer : Define → List Text
-defined_answer d = base_line ∷ section_line d ∷ define_fact d ∷ []
+answer_nothing : (b : Text) → b ≡ [] → answer b ≡ base_line ∷ []
+answer_nothing b e = ap answer e
 
-abbrev pub limit_answer : List Text
-limit_answer = base_line ∷ limit_line ∷ []
+answer_read : (b : Text) → length b ≤ limit → b ≢ [] → (o : Option Define) → define_of (signature_of (base in_force)) b ≡ o → answer b ≡ base_line ∷ command_lines o
+answer_read b h n o e = answer_short b h ∙ ap (λ ls. base_line ∷ ls) (text_lines-some b n ∙ ap command_lines e)
 
-abbrev pub unbuilt_answer : List Text
-unbuilt_answer = base_line ∷ unbuilt_line ∷ []
+-- one byte past the limit settles the answer
+pub answer_front : (b : Text) → answer (take (limit + 1) b) ≡ answer b
+answer_front b =
+    elim (cases_lt limit (length b)) [
+      | inl long ↦ (let front : limit < length (take (limit + 1) b) = omega (arith, length-take (limit + 1) b) in
+          answer_limit (take (limit + 1) b) front ∙ sym (answer_limit b long))
+      | inr short ↦ ap answer (take_all (limit + 1) b (omega arith))
+    ]
 
--- all lines to a `define`
-abbrev pub defined_lines : Define → List Text
-defined_lines d = base_line ∷ section_line d ∷ def_line d ∷ define_fact d ∷ []
+-- ---- outputs from their lines
 
--- the outputs
-abbrev pub out_nothing : Text
-out_nothing = unlines nothing_answer
+-- lines that answer the text are an output to it
+check_lines : (b : Text) (decided : Bool) (ls : List Text) (sections : List Section) (ending : List Text) → list_all is_line ls ≡ true → filter is_answer_line ls ≡ answer b
+    → list_any is_refusal (filter is_answer_line ls) ≡ decided → AreSoundAfter (base 10) ls → ls ≡ base_line ∷ flat_map section_lines sections ++ ending
+    → All (λ s. All IsTheoremLine s.theorems) sections → IsEnding ending → IsCheck b (unlines ls) decided
+check_lines b decided ls sections ending l a r s e t i = record {
+  answered = answers_read ls l ∙ a;
+  decided = ap (list_any is_refusal) (sym a) ∙ r;
+  sound = sound_from_lines (base 10) ls l s;
+  owned = owned_from_lines sections ending ls l e t i;
+}
 
-abbrev pub out_defined : Define → Text
-out_defined d = unlines (defined_lines d)
+abbrev nothing_lines : List Text
+nothing_lines = base_line ∷ []
 
-abbrev pub out_limit : Text
-out_limit = unlines limit_answer
+abbrev refusal_lines : Text → List Text
+refusal_lines line = base_line ∷ line ∷ []
 
-abbrev pub out_unbuilt : Text
-out_unbuilt = unlines unbuilt_answer
-
--- none of the lines has a newline in it
 base_is_line : is_line base_line ≡ true
 unfolding digits
 base_is_line = refl
 
-nothing_lines : list_all is_line nothing_answer ≡ true
-unfolding digits
-nothing_lines = refl
-
-limit_lines : list_all is_line limit_answer ≡ true
-unfolding digits
-limit_lines = refl
-
-unbuilt_lines : list_all is_line unbuilt_answer ≡ true
-unfolding digits
-unbuilt_lines = refl
-
--- nor has a line of a `define` that comes from its name, its term or its equation
-pub record AreLines (d : Define) : Type 0 where
-  pub name : is_line d.name ≡ true
-  pub definition : is_line (def_line d) ≡ true
-  pub fact : is_line (define_fact d) ≡ true
+two_lines : (a b : Text) → is_line a ≡ true → is_line b ≡ true → list_all is_line (a ∷ b ∷ []) ≡ true
+two_lines a b e f = rw (e, f) refl
 
 four_lines : (a b c d : Text) → is_line a ≡ true → is_line b ≡ true → is_line c ≡ true → is_line d ≡ true → list_all is_line (a ∷ b ∷ c ∷ d ∷ []) ≡ true
 four_lines a b c d e f g h = rw (e, f, g, h) refl
 
+line_of_four : (a b c d : Text) → is_line a ≡ true → is_line b ≡ true → is_line c ≡ true → is_line d ≡ true → is_line (a ++ b ++ c ++ d) ≡ true
+line_of_four a b c d p q r s = line_append (a ++ b ++ c) d (line_append (a ++ b) c (line_append a b p q) r) s
+
+nothing_are_lines : list_all is_line nothing_lines ≡ true
+unfolding digits
+nothing_are_lines = refl
+
+-- ---- a definition
+
+record AreLines (d : Define) : Type 0 where
+  name : is_line d.name ≡ true
+  ty : is_type_line (tm_type d.body) ≡ true
+  body : is_term_line d.body ≡ true
+  stray : is_line d.stray ≡ true
+
+stray_is_line : (d : Define) → IsDefinable (signature_of (base 10)) d → is_line d.stray ≡ true
+stray_is_line d h = elim h.stray [ inl e ↦ ap is_line e | inr s ↦ segment_line d.stray s ]
+
+are_lines : (d : Define) → IsDefinable (signature_of (base 10)) d → AreLines d
+are_lines d h =
+    let s = signature_of (base 10) in
+    let named = and_parts (is_name d.name && not (is_numbered d.name)) (is_new s d.name) h.named in
+    record {
+      name = name_line d.name (and_parts (is_name d.name) (not (is_numbered d.name)) named.0).0;
+      ty = type_is_line s (tm_type d.body) base_lines (IsOver-type s refl [] d.body h.typed);
+      body = term_is_line s [] d.body base_lines h.typed;
+      stray = stray_is_line d h;
+    }
+
 defined_are_lines : (d : Define) → AreLines d → list_all is_line (defined_lines d) ≡ true
-defined_are_lines d h = four_lines base_line (section_line d) (def_line d) (define_fact d) base_is_line h.name h.definition h.fact
+defined_are_lines d l =
+    let ty : is_line (ty_text (tm_type d.body)) ≡ true = type_line (tm_type d.body) l.ty in
+    let named : is_line (d.name ++ codes ".def") ≡ true = line_append d.name (codes ".def") l.name refl in
+    let definition : is_line (definition_line (const_def d.name d.body)) ≡ true =
+    line_append (codes "def " ++ d.name ++ codes " : " ++ ty_text (tm_type d.body) ++ codes " = ") (tm_text d.body)
+    (line_append (codes "def " ++ d.name ++ codes " : " ++ ty_text (tm_type d.body)) (codes " = ") (line_of_four (codes "def ") d.name (codes " : ") (ty_text (tm_type d.body)) refl l.name refl ty) refl) (term_line d.body l.body) in
+    let fact : is_line (define_fact d) ≡ true =
+    line_of_four (codes "thm ") (d.name ++ codes ".def") (codes " : ") (tm_text (eq_tm (own_const d.name (tm_type d.body)) d.body)) refl named refl (fact_line d.name d.body l.name l.ty l.body) in
+    four_lines base_line (section_line d) (definition_line (const_def d.name d.body)) (define_fact d) base_is_line l.name definition fact
 
--- which lines of each output are its answer
-pub answers_nothing : answers out_nothing ≡ nothing_answer
-answers_nothing = answers_read nothing_answer nothing_lines
-
-pub answers_limit : answers out_limit ≡ limit_answer
-answers_limit = answers_read limit_answer limit_lines
-
-pub answers_unbuilt : answers out_unbuilt ≡ unbuilt_answer
-answers_unbuilt = answers_read unbuilt_answer unbuilt_lines
-
-pub answers_defined : (d : Define) → AreLines d → answers (out_defined d) ≡ defined_answer d
-answers_defined d h = answers_read (defined_lines d) (defined_are_lines d h)
-
-pub answer_nothing : (b : Text) → b ≡ [] → IsAnswer b (answers out_nothing)
-answer_nothing b e = subst (IsAnswer b) (sym answers_nothing) (nothing e)
-
-pub answer_limit : (b : Text) → limit < length b → IsAnswer b (answers out_limit)
-answer_limit b h = subst (IsAnswer b) (sym answers_limit) (over_limit h)
-
-pub answer_unbuilt : (b : Text) → length b ≤ limit → IsUnbuilt b → IsAnswer b (answers out_unbuilt)
-answer_unbuilt b h u = subst (IsAnswer b) (sym answers_unbuilt) (unbuilt h u)
-
-pub answer_defined : (b : Text) (d : Define) → length b ≤ limit → IsDefine d → b ≡ define_text d → AreLines d → IsAnswer b (answers (out_defined d))
-answer_defined b d h i e l = subst (IsAnswer b) (sym (answers_defined d l)) (defined d h i e)
-
--- how each output is laid out
-pub owned_nothing : IsOwned out_nothing
-owned_nothing = owned_from_lines [] [] nothing_answer nothing_lines refl (All-nil _) accepted
-
-pub owned_limit : IsOwned out_limit
-owned_limit = owned_from_lines [] (limit_line ∷ []) limit_answer limit_lines refl (All-nil _) (refused limit_line refl)
-
-pub owned_unbuilt : IsOwned out_unbuilt
-owned_unbuilt = owned_from_lines [] (unbuilt_line ∷ []) unbuilt_answer unbuilt_lines refl (All-nil _) (refused unbuilt_line refl)
+refused_are_lines : (d : Define) → AreLines d → list_all is_line (refused_lines d) ≡ true
+refused_are_lines d l =
+    two_lines base_line (stray_line d) base_is_line (line_of_four (codes "refused conservativity '") d.stray (codes " ") (decimal d.stray_place) refl l.stray refl (decimal_line d.stray_place))
 
 -- the section of a `define`
-abbrev pub section_of : Define → Section
-section_of d = record { number = 1; name = d.name; body = term_of d; theorems = define_fact d ∷ [] }
+abbrev section_of : Define → Section
+section_of d = record { number = 1; name = d.name; body = d.body; theorems = define_fact d ∷ [] }
 
 section_laid_out : (d : Define) → defined_lines d ≡ base_line ∷ flat_map section_lines (section_of d ∷ []) ++ []
 unfolding digits
 section_laid_out d = refl
 
-pub owned_defined : (d : Define) → AreLines d → IsOwned (out_defined d)
-owned_defined d h =
-    owned_from_lines (section_of d ∷ []) [] (defined_lines d) (defined_are_lines d h) (section_laid_out d)
+const_def_of : (d : Define) → IsDefinable (signature_of (base 10)) d → is_conservative d ≡ true → IsConstDef (base 10) d.name d.body
+const_def_of d h c = record { named = h.named; closed = h.closed; covered = c; typed = h.typed }
+
+section_sound : (ds : List Definition) (d : Define) → AreConservative ds → IsConstDef ds d.name d.body → AreSoundAfter ds (definition_line (const_def d.name d.body) ∷ define_fact d ∷ [])
+section_sound ds d h k = (const_def d.name d.body, refl, k, (d.name ++ codes ".def", eq_tm (own_const d.name (tm_type d.body)) d.body, refl, const_derivable ds d.name d.body h k, tt))
+
+-- ---- the outputs
+
+pub check_limit : (b out : Text) (r : Bool) → limit < length b → out ≡ unlines (base_line ∷ limit_line ∷ []) → r ≡ true → IsCheck b out r
+check_limit b out r h e f =
+    subst (λ o. IsCheck b o r) (sym e) (check_lines b r (refusal_lines limit_line) [] (limit_line ∷ []) (two_lines base_line limit_line base_is_line refl) (sym (answer_limit b h)) (sym f) tt refl (All-nil _) (refused limit_line refl))
+
+pub check_nothing : (b out : Text) → b ≡ [] → out ≡ unlines (base_line ∷ []) → IsCheck b out false
+check_nothing b out n e =
+    subst (λ o. IsCheck b o false) (sym e) (check_lines b false nothing_lines [] [] nothing_are_lines (sym (answer_nothing b n)) refl tt refl (All-nil _) accepted)
+
+pub check_unbuilt : (b out : Text) (r : Bool) → length b ≤ limit → b ≢ [] → define_of (signature_of (base in_force)) b ≡ None → out ≡ unlines (base_line ∷ unbuilt_line ∷ []) → r ≡ true → IsCheck b out r
+check_unbuilt b out r h n o e f =
+    subst (λ o. IsCheck b o r) (sym e) (check_lines b r (refusal_lines unbuilt_line) [] (unbuilt_line ∷ []) (two_lines base_line unbuilt_line base_is_line refl) (sym (answer_read b h n None o)) (sym f) tt refl (All-nil _) (refused unbuilt_line refl))
+
+defined : (b : Text) (d : Define) → IsDefinable (signature_of (base 10)) d → is_conservative d ≡ true → answer b ≡ base_line ∷ command_lines (Some d) → IsCheck b (unlines (defined_lines d)) false
+defined b d h c a =
+    let same : base_line ∷ section_line d ∷ define_fact d ∷ [] ≡ answer b = sym (a ∙ ap (λ (t : Bool). base_line ∷ cond t (section_line d ∷ define_fact d ∷ []) (stray_line d ∷ [])) c) in
+    check_lines b false (defined_lines d) (section_of d ∷ []) [] (defined_are_lines d (are_lines d h)) same refl (section_sound (base 10) d base_conservative (const_def_of d h c)) (section_laid_out d)
     (All-cons (λ s. All IsTheoremLine s.theorems) (section_of d) [] (All-cons IsTheoremLine (define_fact d) [] refl (All-nil IsTheoremLine)) (All-nil _))
     accepted
 
--- each output is sound over the base definitions
-pub sound_nothing : IsSound (base 10) out_nothing
-sound_nothing = sound_from_lines (base 10) nothing_answer nothing_lines tt
+strayed : (b : Text) (d : Define) → IsDefinable (signature_of (base 10)) d → is_conservative d ≡ false → answer b ≡ base_line ∷ command_lines (Some d) → IsCheck b (unlines (refused_lines d)) true
+strayed b d h c a =
+    let same : base_line ∷ stray_line d ∷ [] ≡ answer b = sym (a ∙ ap (λ (t : Bool). base_line ∷ cond t (section_line d ∷ define_fact d ∷ []) (stray_line d ∷ [])) c) in
+    check_lines b true (refused_lines d) [] (stray_line d ∷ []) (refused_are_lines d (are_lines d h)) same refl tt refl (All-nil _) (refused (stray_line d) refl)
 
-pub sound_limit : IsSound (base 10) out_limit
-sound_limit = sound_from_lines (base 10) limit_answer limit_lines tt
-
-pub sound_unbuilt : IsSound (base 10) out_unbuilt
-sound_unbuilt = sound_from_lines (base 10) unbuilt_answer unbuilt_lines tt
-
--- the equation of a new constant, with its type stated
-stated_derivable : (ds : List Definition) (c : Name) (t : Tm) (u : Ty) → AreConservative ds → IsConstDef ds c t → tm_type t ≡ u
-    → IsDerivable (ds ++ const_def c t ∷ []) (seq [] (eq_tm (own_const c u) t))
-stated_derivable ds c t u h k e = subst (λ v. IsDerivable (ds ++ const_def c t ∷ []) (seq [] (eq_tm (own_const c v) t))) e (const_derivable ds c t h k)
-
--- the lines of a definition and of its equation, after others
-section_sound : (ds : List Definition) (c : Name) (t : Tm) (u : Ty) (n : Name) → AreConservative ds → IsConstDef ds c t → tm_type t ≡ u
-    → AreSoundAfter ds (definition_line (const_def c t) ∷ theorem_line n (eq_tm (own_const c u) t) ∷ [])
-section_sound ds c t u n h k e = (const_def c t, refl, k, (n, eq_tm (own_const c u) t, refl, stated_derivable ds c t u h k e, tt))
-
-pub sound_defined : (d : Define) → AreLines d → IsConstDef (base 10) d.name (term_of d) → tm_type (term_of d) ≡ d.ty → IsSound (base 10) (out_defined d)
-sound_defined d h k e =
-    sound_from_lines (base 10) (defined_lines d) (defined_are_lines d h)
-    (section_sound (base 10) d.name (term_of d) d.ty (d.name ++ codes ".def") base_conservative k e)
-
--- which outputs have a refusal
-pub refusal_nothing : list_any is_refusal (answers out_nothing) ≡ false
-refusal_nothing = ap (list_any is_refusal) answers_nothing
-
-pub refusal_defined : (d : Define) → AreLines d → list_any is_refusal (answers (out_defined d)) ≡ false
-refusal_defined d h = ap (list_any is_refusal) (answers_defined d h)
-
-pub refusal_limit : list_any is_refusal (answers out_limit) ≡ true
-refusal_limit = ap (list_any is_refusal) answers_limit
-
-pub refusal_unbuilt : list_any is_refusal (answers out_unbuilt) ≡ true
-refusal_unbuilt = ap (list_any is_refusal) answers_unbuilt
-
-pub define_text-not_empty : (d : Define) → define_text d ≢ []
-define_text-not_empty d e = cc
-
-not_long : (b : Text) → limit < length b → length b ≤ limit → ⊥
-not_long b h g = omega arith
-
-not_long_empty : (b : Text) → limit < length b → b ≡ [] → ⊥
-not_long_empty b h e = let z : length b ≡ 0 = ap length e in omega arith
-
--- a text has one answer, where a command has one text
-pub one_answer : ((d e : Define) → IsDefine d → IsDefine e → define_text d ≡ define_text e → d ≡ e) → (b : Text) (l m : List Text) → IsAnswer b l → IsAnswer b m → l ≡ m
-one_answer unique b l m (over_limit h) (over_limit g) = refl
-one_answer unique b l m (over_limit h) (nothing e) = absurd (not_long_empty b h e)
-one_answer unique b l m (over_limit h) (defined d g i e) = absurd (not_long b h g)
-one_answer unique b l m (over_limit h) (unbuilt g u) = absurd (not_long b h g)
-one_answer unique b l m (nothing e) (over_limit h) = absurd (not_long_empty b h e)
-one_answer unique b l m (nothing e) (nothing f) = refl
-one_answer unique b l m (nothing e) (defined d g i f) = absurd (define_text-not_empty d (sym f ∙ e))
-one_answer unique b l m (nothing e) (unbuilt g u) = absurd (u.not_empty e)
-one_answer unique b l m (defined d g i e) (over_limit h) = absurd (not_long b h g)
-one_answer unique b l m (defined d g i e) (nothing f) = absurd (define_text-not_empty d (sym e ∙ f))
-one_answer unique b l m (defined d g i e) (defined d2 g2 i2 e2) = ap defined_answer (unique d d2 i i2 (sym e ∙ e2))
-one_answer unique b l m (defined d g i e) (unbuilt g2 u) = absurd (u.no_define d i e)
-one_answer unique b l m (unbuilt g u) (over_limit h) = absurd (not_long b h g)
-one_answer unique b l m (unbuilt g u) (nothing e) = absurd (u.not_empty e)
-one_answer unique b l m (unbuilt g u) (defined d g2 i e) = absurd (u.no_define d i e)
-one_answer unique b l m (unbuilt g u) (unbuilt g2 u2) = refl
-
--- an answer has a refusal exactly where it is one of the two refusals
-refused_is : (b : Text) (l : List Text) → IsAnswer b l → list_any is_refusal l ≡ true → (l ≡ limit_answer) ⊎ (l ≡ unbuilt_answer)
-refused_is b l (over_limit h) r = inl refl
-refused_is b l (nothing e) r = absurd (false≢true r)
-refused_is b l (defined d g i e) r = absurd (false≢true r)
-refused_is b l (unbuilt g u) r = inr refl
-
-has_refusal : (l : List Text) → (l ≡ limit_answer) ⊎ (l ≡ unbuilt_answer) → list_any is_refusal l ≡ true
-has_refusal l (inl e) = ap (list_any is_refusal) e
-has_refusal l (inr e) = ap (list_any is_refusal) e
-
-pub refusal_decided : (b : Text) (l : List Text) → IsAnswer b l → Decides (list_any is_refusal l) ((l ≡ limit_answer) ⊎ (l ≡ unbuilt_answer))
-refusal_decided b l a = (refused_is b l a, has_refusal l)
-
--- a front of n + 1 bytes that is longer than n shows that the text is, and one that isn't is all of the text
-front_long : (n : ℕ) (b : Text) → n < length (take (n + 1) b) → n < length b
-front_long n b h = omega (arith, length-take (n + 1) b)
-
-front_all : (n : ℕ) (b : Text) → length (take (n + 1) b) ≤ n → take (n + 1) b ≡ b
-front_all n b h = take_all (n + 1) b (omega (arith, length-take (n + 1) b))
-
--- one byte past the limit settles the answer
-pub answer_of_front : (b : Text) (ls : List Text) → IsAnswer (take (limit + 1) b) ls → IsAnswer b ls
-answer_of_front b ls (over_limit h) = over_limit (front_long limit b h)
-answer_of_front b ls (nothing e) = subst (λ c. IsAnswer c nothing_answer) (front_all limit b (let z = ap length e in omega arith)) (nothing e)
-answer_of_front b ls (defined d h i e) = subst (λ c. IsAnswer c (defined_answer d)) (front_all limit b h) (defined d h i e)
-answer_of_front b ls (unbuilt h u) = subst (λ c. IsAnswer c unbuilt_answer) (front_all limit b h) (unbuilt h u)
+pub check_define : (b out : Text) (r : Bool) (d : Define) → length b ≤ limit → b ≢ [] → define_of (signature_of (base in_force)) b ≡ Some d → IsDefinable (signature_of (base in_force)) d → IsOutputOf d out r → IsCheck b out r
+check_define b out r d l n e h o = at (is_conservative d) refl o.text o.decided
+  where
+    at : (c : Bool) → is_conservative d ≡ c → out ≡ unlines (cond c (defined_lines d) (refused_lines d)) → r ≡ not c → IsCheck b out r
+    at true c t f = subst (λ (x : Text). IsCheck b x r) (sym t) (subst (λ (x : Bool). IsCheck b (unlines (defined_lines d)) x) (sym f) (defined b d h c (answer_read b l n (Some d) e)))
+    at false c t f = subst (λ (x : Text). IsCheck b x r) (sym t) (subst (λ (x : Bool). IsCheck b (unlines (refused_lines d)) x) (sym f) (strayed b d h c (answer_read b l n (Some d) e)))

@@ -1,17 +1,20 @@
 -- From what was read and written to what the program promises.
-use Rattle.std.proofs.Common.{◌≡◌, ℕ, ◌+◌, ◌≤◌, Bool, true, false, [], ◌++◌, length, take, drop, Option, Some, None, sym, ap, ◌∙◌, subst, append-nil, inl, inr, arith}
+use Rattle.std.proofs.Common.{◌≡◌, ℕ, ◌+◌, ◌≤◌, Bool, true, false, [], ◌++◌, length, take, drop, Option, Some, None, refl, sym, ap, ◌∙◌, subst, append-nil, inl, inr, arith}
 use Rattle.std.proofs.lemmas.Bool.{cases_lt}
 use Rattle.std.proofs.lemmas.List.{take_all, drop_all}
 use Rattle.std.proofs.Math.Seq.{take-append_seam, drop-append_seam}
 use Rattle.std.specs.Io.KnownBytes.{IsAtEnd}
-use Rattle.hb_io.specs.Told.{Takes, Appends, append_told, prepend_told}
+use Rattle.hb_io.specs.Told.{Takes, Appends, AppendsPart, append_told, prepend_told}
 use Rattle.hb_io.proofs.ToldLemmas.{prepend_told-None, prepend_told-Some, append_told-Some}
 use Rattle.hol_terms.specs.Text.{Text}
-use Rattle.hb_top.specs.Answer.{limit}
-use Rattle.hb_top.specs.Headline.{IsCheck, HasAnswer, IfAnswered, Answers, Leaves}
+use Rattle.hol_terms.specs.Base.{base}
+use Rattle.hol_terms.specs.Sound.{IsSound}
+use Rattle.hb_top.specs.Answer.{limit, in_force}
+use Rattle.hb_top.specs.Headline.{IsCheck, IsDecided, IfAnswered, Answers, Leaves, IfCut, AnswersInPart, GainsSound, IsPrinting}
 use Rattle.hb_top.specs.declared.top.Status.{Status}
 use Rattle.hb_top.specs.declared.top.Status.TheVariants.{Done, Refused, Usage, ReadFault, WriteFault, Memory}
-use Rattle.hb_top.proofs.Checking.{check_front, has_answer}
+use Rattle.hb_top.proofs.Checking.{check_front}
+use Rattle.hb_top.proofs.Parts.{part_of, no_part}
 
 -- what holds of an answered status goes over to what follows from it
 answered_maps : (s : Status) (P Q : Bool → Type 0) → ((refused : Bool) → P refused → Q refused) → IfAnswered s P → IfAnswered s Q
@@ -69,13 +72,49 @@ run_checks s old new {left} {new_left} {input} {out} {refused} ran =
     (λ r w. λ b e kept k. (out, w.1 ∙ ap (λ o. append_told o out) k ∙ append_told-Some kept out, subst (λ (q : Bool). IsCheck b out q) w.0 (checked ran b e)))
 
 pub run_decides : (s : Status) (old new : Option Text) {left new_left : Option Text} {input out : Text} {refused : Bool} → Ran left new_left input out refused
-    → IfAnswered s (λ r. (refused ≡ r) × Appends old new out) → IfAnswered s (λ r. (b : Text) → left ≡ Some b → HasAnswer b r)
+    → IfAnswered s (λ r. (refused ≡ r) × Appends old new out) → IfAnswered s (λ r. (b : Text) → left ≡ Some b → IsDecided b r)
 run_decides s old new {left} {new_left} {input} {out} {refused} ran =
-    answered_maps s (λ r. (refused ≡ r) × Appends old new out) (λ r. (b : Text) → left ≡ Some b → HasAnswer b r)
-    (λ r w. λ b e. has_answer b out r (subst (λ (q : Bool). IsCheck b out q) w.0 (checked ran b e)))
+    answered_maps s (λ r. (refused ≡ r) × Appends old new out) (λ r. (b : Text) → left ≡ Some b → IsDecided b r)
+    (λ r w. λ b e. let c : IsCheck b out r = subst (λ (q : Bool). IsCheck b out q) w.0 (checked ran b e) in c.decided)
 
 pub run_leaves : (s : Status) (old new : Option Text) {left new_left : Option Text} {input out : Text} {refused : Bool} → Ran left new_left input out refused
     → IfAnswered s (λ r. (refused ≡ r) × Appends old new out) → IfAnswered s (λ r. Leaves left new_left)
 run_leaves s old new {left} {new_left} {input} {out} {refused} ran =
     answered_maps s (λ r. (refused ≡ r) × Appends old new out) (λ r. Leaves left new_left)
     (λ r w. λ b e. let f = front_is limit left new_left input b ran.taken ran.within ran.whole e in f.left)
+
+-- ---- what stands where the output was cut short
+
+same_kept : (kept : Text) (old : Option Text) → old ≡ Some kept → old ≡ Some (kept ++ [])
+same_kept kept old k = k ∙ ap (λ (t : Text). Some t) (sym (append-nil kept))
+
+pub unwritten_part : (left old : Option Text) → AnswersInPart left old old
+unwritten_part left old = λ b e kept k. ([], same_kept kept old k, no_part b)
+
+pub unwritten_sound : (old : Option Text) → GainsSound old old
+unwritten_sound old = λ kept k. ([], same_kept kept old k, tt)
+
+pub ruleset unwritten_lemmas = (unwritten_part, unwritten_sound)
+
+pub run_cut : (s : Status) (old new : Option Text) {left new_left : Option Text} {input out : Text} {refused : Bool} → Ran left new_left input out refused
+    → IsPrinting s → (s ≡ WriteFault → AppendsPart old new out) → IfCut s (AnswersInPart left old new)
+run_cut WriteFault old new {left} {new_left} {input} {out} {refused} ran p w = λ b e kept k.
+    let a = w refl in
+    (take a.0 out, a.2 ∙ ap (λ o. append_told o (take a.0 out)) k ∙ append_told-Some kept (take a.0 out), part_of b out refused a.0 (checked ran b e))
+run_cut Memory old new ran p w = absurd p
+run_cut Done old new ran p w = tt
+run_cut Refused old new ran p w = tt
+run_cut Usage old new ran p w = tt
+run_cut ReadFault old new ran p w = tt
+
+gains : (old new : Option Text) (out : Text) → Appends old new out → IsSound (base in_force) out → GainsSound old new
+gains old new out a s = λ kept k. (out, a ∙ ap (λ o. append_told o out) k ∙ append_told-Some kept out, s)
+
+pub run_sound : (s : Status) (old new : Option Text) {input out : Text} {refused : Bool} → IsCheck input out refused
+    → IsPrinting s → IfAnswered s (λ r. (refused ≡ r) × Appends old new out) → (s ≡ WriteFault → AppendsPart old new out) → GainsSound old new
+run_sound Done old new {input} {out} c p a w = gains old new out a.1 c.sound
+run_sound Refused old new {input} {out} c p a w = gains old new out a.1 c.sound
+run_sound WriteFault old new {input} {out} {refused} c p a w = let x = w refl in gains old new (take x.0 out) x.2 (part_of input out refused x.0 c).sound
+run_sound Memory old new c p a w = absurd p
+run_sound Usage old new c p a w = absurd p
+run_sound ReadFault old new c p a w = absurd p

@@ -1,21 +1,14 @@
 -- What the program promises of the words, the input, the output and the status.
-use Rattle.std.specs.Prelude.{◌≡◌, ℕ, ◌+◌, Bool, true, false, List, [], ◌∷◌, ◌++◌, Option, Some, drop, bytes_eq, codes, string_bytes, String}
+use Rattle.std.specs.Prelude.{◌≡◌, ℕ, ◌+◌, Bool, true, false, List, [], ◌∷◌, ◌++◌, Option, Some, take, drop, codes}
 use Rattle.std.specs.List.{list_any}
-use Rattle.std.specs.declared.alloc.Global.{Global}
+use Rattle.hb_io.specs.Told.{Appends}
 use Rattle.hol_terms.specs.Text.{Text}
 use Rattle.hol_terms.specs.Sound.{IsSound}
 use Rattle.hol_terms.specs.Base.{base}
-use Rattle.hb_top.specs.Answer.{limit, in_force, IsAnswer, answers, is_refusal}
+use Rattle.hb_top.specs.Answer.{limit, in_force, answer, answers, is_refusal}
 use Rattle.hb_top.specs.Layout.{IsOwned}
 use Rattle.hb_top.specs.declared.top.Status.{Status}
 use Rattle.hb_top.specs.declared.top.Status.TheVariants.{Done, Refused, Usage, ReadFault, WriteFault, Memory}
-
--- the words are the program's name and `check`
-abbrev pub is_check : List (String Global) → Bool
-is_check [] = false
-is_check (program ∷ []) = false
-is_check (program ∷ mode ∷ []) = bytes_eq (string_bytes mode) (codes "check")
-is_check (program ∷ mode ∷ word ∷ words) = false
 
 -- the exit code of a status
 abbrev pub code_of : Status → ℕ
@@ -30,22 +23,27 @@ code_of Memory = 5
 abbrev pub message_of : Status → Text
 message_of Done = []
 message_of Refused = []
-message_of Usage = codes "usage: hbnf check" ++ 10 ∷ []
+message_of Usage = codes "usage: hbnf check|log|replay" ++ 10 ∷ []
 message_of ReadFault = codes "read fault" ++ 10 ∷ []
 message_of WriteFault = codes "write fault" ++ 10 ∷ []
 message_of Memory = codes "out of memory" ++ 10 ∷ []
 
--- the text has an answer with a refusal, or without one
-abbrev pub HasAnswer : Text → Bool → Type 0
-HasAnswer b refused = (lines : List Text) × IsAnswer b lines × (list_any is_refusal lines ≡ refused)
+-- the text's answer has a refusal, or has none
+abbrev pub IsDecided : Text → Bool → Type 0
+IsDecided b refused = list_any is_refusal (answer b) ≡ refused
 
 -- the output answers the text, each theorem line is derivable over the definition lines before it, and definitions stand where
 -- they belong
 pub record IsCheck (b out : Text) (refused : Bool) : Type 0 where
-  pub answer : IsAnswer b (answers out)
-  pub decided : list_any is_refusal (answers out) ≡ refused
+  pub answered : answers out ≡ answer b
+  pub decided : IsDecided b refused
   pub sound : IsSound (base in_force) out
   pub owned : IsOwned out
+
+-- the output was cut short: its answer lines begin the answer, and each theorem line is derivable over the definition lines before it
+pub record IsPart (b out : Text) : Type 0 where
+  pub answered : (rest : List Text) × (answers out ++ rest ≡ answer b)
+  pub sound : IsSound (base in_force) out
 
 -- a fact for the statuses Done and Refused, which say whether the answer has a refusal
 abbrev pub IfAnswered : Status → (Bool → Type 0) → Type 0
@@ -57,6 +55,24 @@ IfAnswered s P = Unit {0}
 abbrev pub Answers : Option Text → Option Text → Option Text → Bool → Type 0
 Answers left old new refused = (b : Text) → left ≡ Some b → (kept : Text) → old ≡ Some kept → (out : Text) × (new ≡ Some (kept ++ out)) × IsCheck b out refused
 
+-- a fact for the statuses WriteFault and Memory
+abbrev pub IfCut : Status → Type 0 → Type 0
+IfCut WriteFault P = P
+IfCut Memory P = P
+IfCut s P = Unit {0}
+
+-- the sink gained a part of an output to the source's bytes, or nothing
+abbrev pub AnswersInPart : Option Text → Option Text → Option Text → Type 0
+AnswersInPart left old new = (b : Text) → left ≡ Some b → (kept : Text) → old ≡ Some kept → (out : Text) × (new ≡ Some (kept ++ out)) × IsPart b out
+
+-- the sink gained a text of which each theorem line is derivable over the definition lines before it, or nothing
+abbrev pub GainsSound : Option Text → Option Text → Type 0
+GainsSound old new = (kept : Text) → old ≡ Some kept → (out : Text) × (new ≡ Some (kept ++ out)) × IsSound (base in_force) out
+
+-- the sink gained the bytes, or a part of them from their front
+abbrev pub AppendsFront : Option Text → Option Text → Text → Type 0
+AppendsFront old new bytes = (n : ℕ) × Appends old new (take n bytes)
+
 -- the source has left what follows the bytes that an answer depends on
 abbrev pub Leaves : Option Text → Option Text → Type 0
 Leaves old new = (b : Text) → old ≡ Some b → new ≡ Some (drop (limit + 1) b)
@@ -67,6 +83,12 @@ IsCompletion Done = Unit {0}
 IsCompletion Refused = Unit {0}
 IsCompletion Memory = Unit {0}
 IsCompletion s = ⊥
+
+-- what words that are no mode's may come to
+abbrev pub IsUsage : Status → Type 0
+IsUsage Usage = Unit {0}
+IsUsage Memory = Unit {0}
+IsUsage s = ⊥
 
 -- what printing may answer
 abbrev pub IsPrinting : Status → Type 0

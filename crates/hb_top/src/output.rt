@@ -1,6 +1,8 @@
 //! The output that answers an input.
 
-ghost use Rattle.std.specs.Prelude.{◌≡◌, [], ◌∷◌, ◌++◌, None, codes, string_bytes, IfOk, OnOk};
+ghost use Rattle.std.specs.Prelude.{◌≡◌, true, [], ◌∷◌, ◌++◌, None, codes, string_bytes, IfOk, OnOk};
+ghost use Rattle.std.specs.Fmt.{decimal};
+ghost use Rattle.hol_terms.specs.Base.{base};
 ghost use Rattle.hol_terms.specs.Definition.{const_def, signature_of};
 ghost use Rattle.hol_terms.specs.Signature.{IsOver};
 ghost use Rattle.hol_terms.specs.Sequent.{eq_tm};
@@ -8,17 +10,20 @@ ghost use Rattle.hol_terms.specs.Text.{definition_line, theorem_line};
 ghost use Rattle.hol_terms.specs.Typing.{tm_type};
 ghost use Rattle.hol_terms.specs.TyVars.{own_const};
 ghost use Rattle.hol_kernel.specs.Fault.{const_fault};
-ghost use Rattle.hb_top.specs.Answer.{base_line};
+ghost use Rattle.hb_top.specs.Answer.{in_force, base_line, stray_line};
 ghost use Rattle.hb_top.specs.Layout.{unlines};
 ghost use Rattle.hb_top.specs.Headline.{IsCheck};
+ghost use Rattle.hb_top.specs.Outcome.{IsOutputOf};
+ghost use Rattle.theory_text.specs.Definable.{IsDefinable};
+ghost use Rattle.theory_text.specs.Views.{define_view};
 
 use crate::input::LIMIT;
-use crate::read::read_define;
 use hol_kernel::Kernel;
 use hol_terms::terms::Term;
 use hol_text::print::{definition_line, theorem_line};
 use kernel_lines::start;
 use std::alloc::{AllocError, Global};
+use theory_text::command::{DefineCommand, read_define};
 
 /// An output, and whether it ends in a refusal.
 #[derive(Drop)]
@@ -33,11 +38,7 @@ pub(crate) fn output_of(alloc: Global, input: &[u8]) -> Result<Output, AllocErro
 {
     let mut kernel = start(alloc)?;
     if input.len() > LIMIT {
-        let text = refusal(alloc, "limit input 1048576")?;
-        return Ok(Output {
-            text,
-            refused: true,
-        });
+        return refusal(alloc, "limit input 1048576");
     }
     if input.is_empty() {
         let text = begin(alloc)?;
@@ -47,13 +48,25 @@ pub(crate) fn output_of(alloc: Global, input: &[u8]) -> Result<Output, AllocErro
         });
     }
     let Some(command) = read_define(alloc, kernel.sig(), input)? else {
-        let text = refusal(alloc, "unbuilt - 0")?;
-        return Ok(Output {
-            text,
-            refused: true,
-        });
+        return refusal(alloc, "unbuilt - 0");
     };
-    let text = section(alloc, &mut kernel, command.name.as_str(), &command.body)?;
+    output_of_define(alloc, &mut kernel, &command)
+}
+
+/// The output of a definition: its section, or its refusal where its term has a type variable that its type has not.
+fn output_of_define(
+    alloc: Global,
+    kernel: &mut Kernel,
+    command: &DefineCommand,
+) -> Result<Output, AllocError>
+    requires base { kernel.old.defs ≡ base in_force }
+    requires definable { IsDefinable (signature_of (base in_force)) (define_view command.now) }
+    ensures { IfOk result (λ o. IsOutputOf (define_view command.now) (string_bytes o.text) o.refused) }
+{
+    if !command.body.is_within(command.body.type_of()) {
+        return stray_refusal(alloc, command);
+    }
+    let text = section(alloc, kernel, command.name.as_str(), &command.body)?;
     Ok(Output {
         text,
         refused: false,
@@ -75,13 +88,36 @@ fn push_line(text: &mut String, line: &str) -> Result<(), AllocError>
 }
 
 /// The base line and a refusal.
-fn refusal(alloc: Global, what: &str) -> Result<String, AllocError>
-    ensures { IfOk result (λ text. string_bytes text ≡ unlines (base_line ∷ (codes "refused " ++ what.now) ∷ [])) }
+fn refusal(alloc: Global, what: &str) -> Result<Output, AllocError>
+    ensures text { IfOk result (λ o. string_bytes o.text ≡ unlines (base_line ∷ (codes "refused " ++ what.now) ∷ [])) }
+    ensures refused { IfOk result (λ o. o.refused ≡ true) }
 {
     let mut text = begin(alloc)?;
     text.push_str("refused ")?;
     push_line(&mut text, what)?;
-    Ok(text)
+    Ok(Output {
+        text,
+        refused: true,
+    })
+}
+
+fn push_number(text: &mut String, n: usize) -> Result<(), AllocError>
+    ensures { OnOk result (string_bytes text.new ≡ string_bytes text.old ++ decimal n) }
+{
+    write!(text, "{n}")
+}
+
+/// The base line and the refusal of a type variable, with the place where it stands.
+fn stray_refusal(alloc: Global, command: &DefineCommand) -> Result<Output, AllocError>
+    ensures text { IfOk result (λ o. string_bytes o.text ≡ unlines (base_line ∷ stray_line (define_view command.now) ∷ [])) }
+    ensures refused { IfOk result (λ o. o.refused ≡ true) }
+{
+    let mut what = String::from_str(alloc, "conservativity '")?;
+    what.push_str(command.stray.as_str())?;
+    what.push_str(" ")?;
+    push_number(&mut what, command.stray_place)?;
+    let output = refusal(alloc, what.as_str())?;
+    Ok(output)
 }
 
 /// The base line and the section of a `define`: the constant is defined in the kernel, and the theorem line is the theorem that

@@ -1,13 +1,15 @@
-ghost use Rattle.std.specs.Prelude.{◌≡◌, ◌↔◌, false, true, Some, string_bytes};
+ghost use Rattle.std.specs.Prelude.{◌≡◌, false, true, Some, map, string_bytes};
 ghost use Rattle.hb_io.specs.Faults.{Rose};
-ghost use Rattle.hb_io.specs.Told.{Appends};
+ghost use Rattle.hb_io.specs.Told.{Appends, AppendsPart};
 ghost use Rattle.hb_top.specs.declared.top.Status.TheVariants as status;
-ghost use Rattle.hb_top.specs.Headline.{is_check, code_of, message_of, HasAnswer, IfAnswered, Answers, Leaves, IsCompletion, IsPrinting, IsUnwritten};
+ghost use Rattle.hb_top.specs.Headline.{code_of, message_of, IsDecided, IfAnswered, Answers, Leaves, IfCut, AnswersInPart, GainsSound, AppendsFront, IsUsage, IsCompletion, IsPrinting, IsUnwritten};
 ghost use Rattle.hol_terms.specs.Text.{Text};
+ghost use Rattle.program_words.specs.Words.{is_check};
 
 use crate::input::{InputError, read_input};
 use crate::output::{Output, output_of};
 use hb_io::{Sink, Source, write_all};
+use program_words::are_check;
 use std::alloc::Global;
 
 /// How a call ended: the command was done; it was refused; the words aren't those of a mode; the source failed; the sink
@@ -43,7 +45,7 @@ impl Status {
         match self {
             Status::Done => "",
             Status::Refused => "",
-            Status::Usage => "usage: hbnf check\n",
+            Status::Usage => "usage: hbnf check|log|replay\n",
             Status::ReadFault => "read fault\n",
             Status::WriteFault => "write fault\n",
             Status::Memory => "out of memory\n",
@@ -51,13 +53,13 @@ impl Status {
     }
 }
 
-/// The program: with the words `check` it reads a theory text from `src`, and writes the base line, the section of the command
+/// The program: with the mode `check` it reads a theory text from `src`, and writes the base line, the section of the command
 /// with its definition and theorem lines, or the refusal, to `out`. A status that is a fault says so on `err`, whose own faults
 /// change no status.
 ///
-/// The status is Usage exactly where the words aren't the program's name and `check`; ReadFault only where the faults of `src`
-/// rose in this call, WriteFault only where those of `out` did; Memory for want of memory; else Done or Refused, as the text's
-/// answer has no refusal or has one.
+/// The status is Usage only where the words aren't those of a mode; ReadFault only where the faults of `src` rose in this call,
+/// WriteFault only where those of `out` did; Memory for want of memory; else Done or Refused, as the text's answer has no refusal
+/// or has one.
 pub fn hbnf<S: Source, O: Sink, E: Sink>(
     alloc: Global,
     words: &[String],
@@ -67,36 +69,73 @@ pub fn hbnf<S: Source, O: Sink, E: Sink>(
 ) -> Status
     // What is printed after Done and Refused answers the input, is sound, and stands where it belongs.
     ensures check { IfAnswered result (Answers (S.left src.old) (O.kept out.old) (O.kept out.new)) }
-    ensures decided { IfAnswered result (λ refused. (b : Text) → S.left src.old ≡ Some b → HasAnswer b refused) }
+    ensures decided { IfAnswered result (λ refused. (b : Text) → S.left src.old ≡ Some b → IsDecided b refused) }
     ensures left { IfAnswered result (λ refused. Leaves (S.left src.old) (S.left src.new)) }
     // Each fault has its cause.
-    ensures usage { (result ≡ status.Usage) ↔ (is_check words.now ≡ false) }
+    ensures usage { result ≡ status.Usage → is_check (map string_bytes words.now) ≡ false }
+    ensures words { is_check (map string_bytes words.now) ≡ false → IsUsage result }
     ensures read_fault { result ≡ status.ReadFault → Rose (S.faults src.old) (S.faults src.new) }
     ensures write_fault { result ≡ status.WriteFault → Rose (O.faults out.old) (O.faults out.new) }
-    ensures completes { is_check words.now ≡ true → (Rose (S.faults src.old) (S.faults src.new) → ⊥) → (Rose (O.faults out.old) (O.faults out.new) → ⊥) → IsCompletion result }
-    // What stays, and what is said.
-    ensures untouched { result ≡ status.Usage → S.left src.new ≡ S.left src.old }
+    ensures completes { is_check (map string_bytes words.now) ≡ true → (Rose (S.faults src.old) (S.faults src.new) → ⊥) → (Rose (O.faults out.old) (O.faults out.new) → ⊥) → IsCompletion result }
+    // What stands after a fault and after want of memory, and what is said.
+    ensures cut { IfCut result (AnswersInPart (S.left src.old) (O.kept out.old) (O.kept out.new)) }
+    ensures sound { GainsSound (O.kept out.old) (O.kept out.new) }
     ensures unwritten { IsUnwritten result (O.kept out.old) (O.kept out.new) }
+    ensures untouched { result ≡ status.Usage → S.left src.new ≡ S.left src.old }
     ensures says { (Rose (E.faults err.old) (E.faults err.new) → ⊥) → Appends (E.kept err.old) (E.kept err.new) (message_of result) }
+    ensures says_part { AppendsFront (E.kept err.old) (E.kept err.new) (message_of result) }
 {
     let status = run(alloc, words, src, out);
-    let _ = write_all(err, status.message().as_bytes());
+    say(err, status);
     status
 }
 
+/// Writes the status's message, as far as the sink takes it.
+#[tactic(auto, using(crate::proofs::Saying::said_lemmas))]
+fn say<E: Sink>(err: &mut E, status: Status)
+    ensures says { (Rose (E.faults err.old) (E.faults err.new) → ⊥) → Appends (E.kept err.old) (E.kept err.new) (message_of status) }
+    ensures says_part { AppendsFront (E.kept err.old) (E.kept err.new) (message_of status) }
+{
+    match write_all(err, status.message().as_bytes()) {
+        Ok(()) => (),
+        Err(_) => (),
+    }
+}
+
+#[tactic(auto, using(crate::proofs::Running::unwritten_lemmas))]
 fn run<S: Source, O: Sink>(alloc: Global, words: &[String], src: &mut S, out: &mut O) -> Status
     ensures check { IfAnswered result (Answers (S.left src.old) (O.kept out.old) (O.kept out.new)) }
-    ensures decided { IfAnswered result (λ refused. (b : Text) → S.left src.old ≡ Some b → HasAnswer b refused) }
+    ensures decided { IfAnswered result (λ refused. (b : Text) → S.left src.old ≡ Some b → IsDecided b refused) }
     ensures left { IfAnswered result (λ refused. Leaves (S.left src.old) (S.left src.new)) }
-    ensures usage { (result ≡ status.Usage) ↔ (is_check words.now ≡ false) }
+    ensures usage { result ≡ status.Usage → is_check (map string_bytes words.now) ≡ false }
+    ensures words { is_check (map string_bytes words.now) ≡ false → IsUsage result }
     ensures read_fault { result ≡ status.ReadFault → Rose (S.faults src.old) (S.faults src.new) }
     ensures write_fault { result ≡ status.WriteFault → Rose (O.faults out.old) (O.faults out.new) }
-    ensures untouched { result ≡ status.Usage → S.left src.new ≡ S.left src.old }
+    ensures cut { IfCut result (AnswersInPart (S.left src.old) (O.kept out.old) (O.kept out.new)) }
+    ensures sound { GainsSound (O.kept out.old) (O.kept out.new) }
     ensures unwritten { IsUnwritten result (O.kept out.old) (O.kept out.new) }
+    ensures untouched { result ≡ status.Usage → S.left src.new ≡ S.left src.old }
 {
-    if !are_check(words) {
-        return Status::Usage;
+    match are_check(alloc, words) {
+        Ok(true) => check(alloc, src, out),
+        Ok(false) => Status::Usage,
+        Err(_) => Status::Memory,
     }
+}
+
+/// Checks a theory text.
+#[tactic(auto, using(crate::proofs::Running::unwritten_lemmas))]
+fn check<S: Source, O: Sink>(alloc: Global, src: &mut S, out: &mut O) -> Status
+    ensures check { IfAnswered result (Answers (S.left src.old) (O.kept out.old) (O.kept out.new)) }
+    ensures decided { IfAnswered result (λ refused. (b : Text) → S.left src.old ≡ Some b → IsDecided b refused) }
+    ensures left { IfAnswered result (λ refused. Leaves (S.left src.old) (S.left src.new)) }
+    ensures read_fault { result ≡ status.ReadFault → Rose (S.faults src.old) (S.faults src.new) }
+    ensures write_fault { result ≡ status.WriteFault → Rose (O.faults out.old) (O.faults out.new) }
+    ensures cut { IfCut result (AnswersInPart (S.left src.old) (O.kept out.old) (O.kept out.new)) }
+    ensures sound { GainsSound (O.kept out.old) (O.kept out.new) }
+    ensures unwritten { IsUnwritten result (O.kept out.old) (O.kept out.new) }
+    ensures no_usage { result ≡ status.Usage → ⊥ }
+{
     let input = match read_input(alloc, src) {
         Ok(input) => input,
         Err(InputError::Fault) => return Status::ReadFault,
@@ -112,20 +151,12 @@ fn run<S: Source, O: Sink>(alloc: Global, words: &[String], src: &mut S, out: &m
 fn print<O: Sink>(output: &Output, out: &mut O) -> Status
     ensures written { IfAnswered result (λ refused. (output.now.refused ≡ refused) × Appends (O.kept out.old) (O.kept out.new) (string_bytes output.now.text)) }
     ensures fault { result ≡ status.WriteFault → Rose (O.faults out.old) (O.faults out.new) }
+    ensures cut { result ≡ status.WriteFault → AppendsPart (O.kept out.old) (O.kept out.new) (string_bytes output.now.text) }
     ensures status { IsPrinting result }
 {
     match write_all(out, output.text.as_bytes()) {
         Err(_) => Status::WriteFault,
         Ok(()) if output.refused => Status::Refused,
         Ok(()) => Status::Done,
-    }
-}
-
-fn are_check(words: &[String]) -> bool
-    ensures { result ≡ is_check words.now }
-{
-    match words {
-        [_, mode] => mode.as_str() == "check",
-        _ => false,
     }
 }

@@ -7,4 +7,3 @@ pub mod NormLemmas
 pub mod Filling
 pub mod RewriteLemmas
 pub mod PlaceLemmas
-pub mod TestLemmas

@@ -3,4 +3,3 @@ pub mod Fresh
 pub mod Conv
 pub mod Eta
 pub mod Rewriting
-pub mod Samples

@@ -5,5 +5,3 @@ pub mod beta;
 pub mod eta;
 mod fresh;
 pub mod rewrite;
-#[cfg(test)]
-mod tests;

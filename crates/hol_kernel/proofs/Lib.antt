@@ -9,7 +9,6 @@ pub mod Conditions
 pub mod Textbook
 pub mod Sound
 pub mod Calculus
-pub mod Examples
 pub mod Placing
 pub mod Fits
 pub mod Keeping

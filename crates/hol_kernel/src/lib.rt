@@ -15,6 +15,3 @@ mod theorem;
 
 pub use kernel::{Kernel, Thm, Unfit};
 pub use step::Step;
-
-#[cfg(test)]
-mod tests;

@@ -9,6 +9,4 @@ mod replace;
 pub mod sig;
 mod sig_types;
 pub mod terms;
-#[cfg(test)]
-mod tests;
 pub mod types;

@@ -25,5 +25,4 @@ pub mod ReadBackTerms
 pub mod ReadBackTokens
 pub mod ReadBackTypes
 pub mod TermSteps
-pub mod TestLemmas
 pub mod TypeSteps

@@ -335,4 +335,15 @@ pub term_read-over : (s : Signature) (text : List ℕ) (t : Tm) → GivesTypes s
 unfolding reading_of_term
 term_read-over s text t k u e = term-whole s (term_at s (length text + 1) [] (tokens text)) t (term-over s (length text + 1) k [] (tokens text) (tokens-good text u)) e
 
+-- what is read as a term at the front of tokens, outside of binders, is well typed
+abbrev pub IsTopTerm : Signature → Operand → Type 0
+IsTopTerm s x = (t : Tm) → x.meaning ≡ means t → IsOver s [] t
+
+top_found : (s : Signature) (f : Front Operand) → Finds (OverOperand s []) f → Finds (IsTopTerm s) f
+top_found s (got x ts) h = (λ t m. at-top s [] t (subst (OverTerm s []) m h.0 tt), h.1)
+top_found s (stop p) h = tt
+
+pub top_term-over : (s : Signature) (n : ℕ) (ts : List Token) → GivesTypes s → AreGood ts → Finds (IsTopTerm s) (term_at s n [] ts)
+top_term-over s n ts k g = top_found s (term_at s n [] ts) (term-over s n k [] ts g)
+
 pub ruleset over_lemmas = (type_read-over, term_read-over)

@@ -398,7 +398,7 @@ fn finish(alloc: Global, tokens: &mut Vec<Token>, state: State) -> Result<(), Al
 
 /// The tokens of a text. The last one is the end.
 #[tactic(auto, unfolding(hol_terms::specs::Tokens::tokens))]
-pub(crate) fn tokens(alloc: Global, text: &str) -> Result<Vec<Token>, AllocError>
+pub fn tokens(alloc: Global, text: &str) -> Result<Vec<Token>, AllocError>
     ensures { IfOk result (λ v. tokens_of v.items ≡ tokens text.now) }
 {
     let mut tokens = Vec::new(alloc);

@@ -2,14 +2,12 @@
 #![tactic(auto)]
 
 pub mod laws;
-mod lexer;
-mod meaning;
+pub mod lexer;
+pub mod meaning;
 pub mod print;
 pub mod read;
 pub mod samples;
-mod scope;
-mod terms;
-#[cfg(test)]
-mod tests;
-mod tokens;
-mod types;
+pub mod scope;
+pub mod terms;
+pub mod tokens;
+pub mod types;

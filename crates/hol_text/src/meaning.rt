@@ -17,7 +17,7 @@ use std::cmp::Ordering;
 
 /// Why a text that the grammar admits is no type or term.
 #[derive(Drop)]
-pub(crate) enum Fault {
+pub enum Fault {
     /// A name that the signature and the binders don't give, or that has another number of type arguments.
     Unknown { name: String, place: usize },
     /// An application of a term to one that it doesn't take.
@@ -26,7 +26,7 @@ pub(crate) enum Fault {
 
 /// A type or a term, or a fault in place of it.
 #[derive(Drop)]
-pub(crate) enum Meaning<T> {
+pub enum Meaning<T> {
     Means(T),
     Faulty(Fault),
 }
@@ -40,9 +40,9 @@ pub(crate) enum Arguments {
 
 /// A term, and the place of its first token.
 #[derive(Drop)]
-pub(crate) struct Operand {
-    pub(crate) meaning: Meaning<Term>,
-    pub(crate) first: usize,
+pub struct Operand {
+    pub meaning: Meaning<Term>,
+    pub first: usize,
 }
 
 /// The fault that is told of two.

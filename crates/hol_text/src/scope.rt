@@ -11,7 +11,7 @@ use std::alloc::{AllocError, Global};
 
 /// The binders around, each with the free variable that is read in place of the bound one.
 #[derive(Clone, Copy)]
-pub(crate) enum Scope<'a> {
+pub enum Scope<'a> {
     Top,
     Binder(&'a str, &'a Var, &'a Scope<'a>),
 }

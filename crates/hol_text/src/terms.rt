@@ -339,7 +339,7 @@ fn binder_at<'a>(
 /// A term. The recursion goes as deep as terms are nested by parentheses and binders, at most `fuel`.
 #[cycle(terms)]
 #[tactic(auto, using(crate::proofs::TermSteps::term_lemmas))]
-pub(crate) fn term_at<'a>(
+pub fn term_at<'a>(
     alloc: Global,
     sig: &Sig,
     fuel: usize,

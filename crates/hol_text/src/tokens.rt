@@ -8,7 +8,7 @@ use std::alloc::{AllocError, Global};
 
 /// What a token is.
 #[derive(Clone, Copy)]
-pub(crate) enum TokenKind {
+pub enum TokenKind {
     Name,
     Variable,
     Keyword,
@@ -40,10 +40,10 @@ pub(crate) enum TokenKind {
 
 /// A token: its kind, the text of a name or a type variable, and the byte at which it begins.
 #[derive(Drop)]
-pub(crate) struct Token {
-    pub(crate) kind: TokenKind,
-    pub(crate) text: String,
-    pub(crate) place: usize,
+pub struct Token {
+    pub kind: TokenKind,
+    pub text: String,
+    pub place: usize,
 }
 
 /// Adds a token.
@@ -63,7 +63,7 @@ pub(crate) fn push(
 }
 
 /// The kind of the first token.
-pub(crate) fn head_kind(tokens: &[Token]) -> TokenKind
+pub fn head_kind(tokens: &[Token]) -> TokenKind
     ensures { kind_of result ≡ head_kind (tokens_of tokens.now) }
 {
     match tokens {
@@ -73,7 +73,7 @@ pub(crate) fn head_kind(tokens: &[Token]) -> TokenKind
 }
 
 /// The text of the first token.
-pub(crate) fn head_text(tokens: &[Token]) -> &str
+pub fn head_text(tokens: &[Token]) -> &str
     ensures { result.now ≡ head_text (tokens_of tokens.now) }
 {
     match tokens {
@@ -83,7 +83,7 @@ pub(crate) fn head_text(tokens: &[Token]) -> &str
 }
 
 /// The place of the first token.
-pub(crate) fn head_place(tokens: &[Token]) -> usize
+pub fn head_place(tokens: &[Token]) -> usize
     ensures { result ≡ head_place (tokens_of tokens.now) }
 {
     match tokens {
@@ -93,7 +93,7 @@ pub(crate) fn head_place(tokens: &[Token]) -> usize
 }
 
 /// The tokens behind the first.
-pub(crate) fn tail(tokens: &[Token]) -> &[Token]
+pub fn tail(tokens: &[Token]) -> &[Token]
     ensures { tokens_of result.now ≡ tail (tokens_of tokens.now) }
 {
     match tokens {

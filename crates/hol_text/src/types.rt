@@ -17,7 +17,7 @@ use std::alloc::{AllocError, Global};
 
 /// Why nothing was read: memory ran out, or the grammar has not the token at a place.
 #[derive(Drop)]
-pub(crate) enum Stop {
+pub enum Stop {
     Memory,
     Grammar(usize),
 }
@@ -53,13 +53,13 @@ pub(crate) fn postfix<'a>(
 }
 
 /// No token of the grammar stands there.
-pub(crate) fn stop_at(tokens: &[Token]) -> Stop
+pub fn stop_at(tokens: &[Token]) -> Stop
     ensures { result ≡ Grammar (Lex.head_place (tokens_of tokens.now)) }
 {
     Stop::Grammar(head_place(tokens))
 }
 
-pub(crate) fn is_name(kind: TokenKind) -> bool
+pub fn is_name(kind: TokenKind) -> bool
     ensures { result ≡ is_name_token (kind_of kind) }
 {
     matches!(kind, TokenKind::Name)
@@ -172,7 +172,7 @@ fn dtype_at<'a>(
 /// A type. The recursion goes as deep as types are nested by parentheses and arrows, at most `fuel`.
 #[cycle(types)]
 #[tactic(auto, using(crate::proofs::TypeSteps::type_lemmas))]
-pub(crate) fn type_at<'a>(
+pub fn type_at<'a>(
     alloc: Global,
     sig: &Sig,
     fuel: usize,
@@ -203,7 +203,7 @@ pub(crate) fn is_colon(kind: TokenKind) -> bool
 
 /// A type behind a colon.
 #[tactic(auto, unfolding(hol_terms::specs::Reading::typed_at))]
-pub(crate) fn typed_at<'a>(
+pub fn typed_at<'a>(
     alloc: Global,
     sig: &Sig,
     fuel: usize,

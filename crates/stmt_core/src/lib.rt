@@ -6,8 +6,6 @@ pub mod connectives;
 mod defined;
 mod facts;
 mod tables;
-#[cfg(test)]
-mod tests;
 
 pub use base::base_def;
 pub use facts::{Fact, LogicFact, ProductFact, SumFact, fact_stmt};

@@ -1,0 +1,7 @@
+//! Tests of the program's calls and of the texts that it prints.
+#![tactic(auto)]
+
+#[cfg(test)]
+mod printing;
+#[cfg(test)]
+mod runs;

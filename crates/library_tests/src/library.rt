@@ -1,0 +1,91 @@
+//! The library as it is built where there is memory.
+
+use hol_kernel::{Kernel, Thm};
+use hol_text::print::print_term;
+use kernel_lines::start;
+use script_core::Shelf;
+use std::alloc::{AllocError, Global};
+use std::test::Fail;
+use stmt_core::{Fact, LogicFact, ProductFact, SumFact, fact_stmt};
+use th_base::build;
+
+// The facts of the library.
+static FACTS: [Fact; 43] = [
+    Fact::Logic(LogicFact::Truth),
+    Fact::Logic(LogicFact::Extensionality),
+    Fact::Logic(LogicFact::ExcludedMiddle),
+    Fact::Logic(LogicFact::Contradiction),
+    Fact::Logic(LogicFact::DoubleNegation),
+    Fact::Logic(LogicFact::NotDisj),
+    Fact::Logic(LogicFact::NotConj),
+    Fact::Logic(LogicFact::ImpAsDisj),
+    Fact::Logic(LogicFact::NotImp),
+    Fact::Logic(LogicFact::NotEx),
+    Fact::Logic(LogicFact::NotAll),
+    Fact::Logic(LogicFact::NotAsEquation),
+    Fact::Logic(LogicFact::FunctionsDiffer),
+    Fact::Logic(LogicFact::TruthValuesDiffer),
+    Fact::Logic(LogicFact::SomeHolds),
+    Fact::Logic(LogicFact::Choice),
+    Fact::Logic(LogicFact::ChoiceOn),
+    Fact::Logic(LogicFact::UniqueChoice),
+    Fact::Logic(LogicFact::Identity),
+    Fact::Logic(LogicFact::IfTrue),
+    Fact::Logic(LogicFact::IfFalse),
+    Fact::Product(ProductFact::UnitAbsRep),
+    Fact::Product(ProductFact::UnitRepAbs),
+    Fact::Product(ProductFact::UnitEqual),
+    Fact::Product(ProductFact::ProdAbsRep),
+    Fact::Product(ProductFact::ProdRepAbs),
+    Fact::Product(ProductFact::PairRep),
+    Fact::Product(ProductFact::PairInjective),
+    Fact::Product(ProductFact::PairExhausts),
+    Fact::Product(ProductFact::FstPair),
+    Fact::Product(ProductFact::SndPair),
+    Fact::Product(ProductFact::PairOfComponents),
+    Fact::Sum(SumFact::SumAbsRep),
+    Fact::Sum(SumFact::SumRepAbs),
+    Fact::Sum(SumFact::InlRep),
+    Fact::Sum(SumFact::InrRep),
+    Fact::Sum(SumFact::InlInjective),
+    Fact::Sum(SumFact::InrInjective),
+    Fact::Sum(SumFact::InlNotInr),
+    Fact::Sum(SumFact::InrNotInl),
+    Fact::Sum(SumFact::InlOrInr),
+    Fact::Sum(SumFact::CaseInl),
+    Fact::Sum(SumFact::CaseInr),
+];
+
+// The theorem has no hypotheses, and the fact's text.
+fn says(alloc: Global, th: &Thm, fact: Fact) -> Result<bool, AllocError> {
+    let text = print_term(alloc, th.concl())?;
+    let statement = fact_stmt(alloc, fact)?;
+    let stated = print_term(alloc, &statement)?;
+    Ok(th.hyps().is_empty() && text.as_str() == stated.as_str())
+}
+
+fn is_proved(alloc: Global, shelf: &Shelf, fact: Fact) -> Result<bool, AllocError> {
+    match shelf.get(fact) {
+        Some(th) => says(alloc, th, fact),
+        None => Ok(false),
+    }
+}
+
+#[tactic(auto, using(crate::proofs::Shelves::had_none))]
+fn built(alloc: Global) -> Result<(Kernel, Shelf), AllocError> {
+    let mut kernel = start(alloc)?;
+    let mut shelf = Shelf::new(alloc)?;
+    build(alloc, &mut kernel, &mut shelf)?;
+    Ok((kernel, shelf))
+}
+
+#[test]
+fn each_fact_is_proved(rt: HostRuntime) -> Result<(), Fail> {
+    let alloc = rt.alloc();
+    let (kernel, shelf) = built(alloc)?;
+    assert_eq!(rt; kernel.defs().len(), 33);
+    for fact in &FACTS {
+        assert!(rt; is_proved(alloc, &shelf, *fact)?);
+    }
+    Ok(())
+}

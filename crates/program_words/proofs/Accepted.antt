@@ -1,0 +1,374 @@
+-- A command with one positional takes exactly the words of one mode.
+use Rattle.std.proofs.Common.{◌≡◌, ◌⊎◌, inl, inr, refl, sym, ap, ◌∙◌, subst, ℕ, ◌==◌, Bool, true, false, cond, List, [], ◌∷◌, Option, Some, None, Result, Ok, Err, IfOk, IfErr, map, eqb-true}
+use Rattle.std.specs.Prelude.{◌||◌, bytes_eq, codes, slice_get, fold, is_some}
+use Rattle.std.specs.List.{list_any}
+use Rattle.std.specs.Str.{chars}
+use Rattle.std.specs.Borrow.{Bor}
+use Rattle.std.proofs.lemmas.Bool.{true≢false}
+use Rattle.std.proofs.lemmas.Slice.Eq.{bytes_eq-Decides}
+use Rattle.clap.specs.Walk.{Held, Rule, rule_of, Walk, idle, walked, bundle_met, settled, finished, nothing_held}
+use Rattle.clap.specs.Simple.{App, Shape, new_app, new_rule, with_rule, built, entered, app_of, app_of_fields}
+use Rattle.clap.specs.Values.{refused_kind, same_text, kind_of}
+use Rattle.clap.specs.Kinds.{Kinds, or_else, FailsBy}
+use Rattle.clap.specs.Faults.{walk_fault, flags_fault, settle_fault, defaults_fault, check_fault, entered_fault, fault_of, is_simple_and_free}
+use Rattle.clap.specs.Takes.{takes}
+use Rattle.clap.specs.ValueTests.{accepts}
+use Rattle.clap.specs.declared.builder.action.ArgAction.TheVariants.{Set}
+use Rattle.clap.specs.declared.builder.arg.Arg.{Arg}
+use Rattle.clap.specs.declared.builder.command.Command.{Command}
+use Rattle.clap.specs.declared.builder.command.Command.TheViews.{out-Command as fields_of}
+use Rattle.clap.specs.declared.builder.value_parser.ValueParser.{ValueParser}
+use Rattle.clap.specs.declared.builder.value_parser.ValueParser.TheVariants.{Names}
+use Rattle.clap.specs.declared.error.Error.{Error}
+use Rattle.clap.specs.declared.error.kind.ErrorKind.TheVariants as kind
+use Rattle.clap.proofs.OnLiterals.{clap_on_literals}
+use Rattle.program_words.specs.Words.{Word, begins_with_minus, modes, with_mode, is_one, is_check}
+
+-- the command: no help flag, and one positional with a test of its values
+abbrev pub mode_rule : ValueParser → Rule
+mode_rule p = record (new_rule (codes "mode")) { required = true; action = Some Set; parser = Some p }
+
+abbrev pub app : ValueParser → App
+app p = with_rule (record (new_app (codes "hbnf")) { top = record (new_app (codes "hbnf")).top { disable_help_flag = true } }) (mode_rule p)
+
+abbrev top : ValueParser → Shape
+top p = (built (app p)).top
+
+pub is_simple : (p : ValueParser) → is_simple_and_free (app p) ≡ true
+is_simple p = refl
+
+-- ---- words that are taken
+
+check_taken : (p : ValueParser) (program : Word) → accepts false p (codes "check") ≡ true → takes (app p) (program ∷ codes "check" ∷ []) ≡ true
+unfolding clap_on_literals walked
+check_taken p program a = rw a refl
+
+behind_taken : (p : ValueParser) (program : Word) → accepts false p (codes "check") ≡ true → takes (app p) (program ∷ codes "--" ∷ codes "check" ∷ []) ≡ true
+unfolding clap_on_literals walked
+behind_taken p program a = rw a refl
+
+before_taken : (p : ValueParser) (program : Word) → accepts false p (codes "check") ≡ true → takes (app p) (program ∷ codes "check" ∷ codes "--" ∷ []) ≡ true
+unfolding clap_on_literals walked
+before_taken p program a = rw a refl
+
+-- ---- words that are refused
+
+-- the walk where no mode was met, and behind one; behind `--` or not
+abbrev at_first : Bool → Walk
+at_first t = record { held = nothing_held; waiting = idle; position = 1; is_trailing = t; stopped = None }
+
+abbrev holding : Word → Held
+holding m = record { rows = []; pending = Some (codes "mode", m ∷ []); skip = 0 }
+
+abbrev at_second : Bool → Word → Walk
+at_second t m = record { held = holding m; waiting = idle; position = 2; is_trailing = t; stopped = None }
+
+-- what the words come to from there, and where the walk is behind them
+abbrev fault_from : ValueParser → Walk → List Word → Kinds
+fault_from p w ws = walk_fault (top p) [] w ws
+
+abbrev walk_by : ValueParser → Walk → List Word → Walk
+walk_by p w ws = fold (walked (top p).rules []) w ws
+
+abbrev unknown : Kinds
+unknown = kind.UnknownArgument ∷ []
+
+not_none : unknown ≡ [] → ⊥
+not_none e = cc
+
+abbrev minus_twice : Word
+minus_twice = 45 ∷ 45 ∷ []
+
+-- a word behind a mode
+trailing_second : (p : ValueParser) (m w : Word) (ws : List Word) → fault_from p (at_second true m) (w ∷ ws) ≡ unknown
+unfolding walk_fault walked
+trailing_second p m w ws = refl
+
+plain_second : (p : ValueParser) (m : Word) (c : ℕ) (cs : Word) (ws : List Word) → (c == 45) ≡ false → fault_from p (at_second false m) ((c ∷ cs) ∷ ws) ≡ unknown
+unfolding walk_fault walked
+plain_second p m c cs ws e = rw e (rw e refl)
+
+empty_second : (p : ValueParser) (m : Word) (ws : List Word) → fault_from p (at_second false m) ([] ∷ ws) ≡ unknown
+unfolding walk_fault walked
+empty_second p m ws = refl
+
+minus_second : (p : ValueParser) (m : Word) (ws : List Word) → fault_from p (at_second false m) ((45 ∷ []) ∷ ws) ≡ unknown
+unfolding walk_fault walked
+minus_second p m ws = refl
+
+long_second : (p : ValueParser) (m : Word) (x : ℕ) (xs : Word) (ws : List Word) → fault_from p (at_second false m) ((45 ∷ 45 ∷ x ∷ xs) ∷ ws) ≡ unknown
+unfolding walk_fault walked
+long_second p m x xs ws = refl
+
+short_second : (p : ValueParser) (m : Word) (d : ℕ) (ds : Word) (ws : List Word) (o : Option ℕ) → (d == 45) ≡ false → slice_get (chars (d ∷ ds)) 0 ≡ o → fault_from p (at_second false m) ((45 ∷ d ∷ ds) ∷ ws) ≡ unknown
+unfolding walk_fault walked flags_fault bundle_met
+short_second p m d ds ws (Some x) e o = rw e (rw e (rw o refl))
+short_second p m d ds ws None e o = rw e (rw e (rw o refl))
+
+-- the first character of a list, as the test of its number
+same_minus : (c : ℕ) → (c == 45) ≡ true → c ≡ 45
+same_minus c e = eqb-true c 45 e
+
+other_second : (p : ValueParser) (m w : Word) (ws : List Word) → (w ≡ minus_twice → ⊥) → fault_from p (at_second false m) (w ∷ ws) ≡ unknown
+other_second p m [] ws n = empty_second p m ws
+other_second p m (c ∷ cs) ws n = at (c == 45) refl cs n
+  where
+    after : (d : ℕ) (ds : Word) (b : Bool) → (d == 45) ≡ b → ((45 ∷ d ∷ ds) ≡ minus_twice → ⊥) → fault_from p (at_second false m) ((45 ∷ d ∷ ds) ∷ ws) ≡ unknown
+    after d ds false e k = short_second p m d ds ws (slice_get (chars (d ∷ ds)) 0) e refl
+    after d [] true e k = absurd (k (ap (λ (x : ℕ). 45 ∷ x ∷ []) (same_minus d e)))
+    after d (x ∷ xs) true e k = subst (λ (y : ℕ). fault_from p (at_second false m) ((45 ∷ y ∷ x ∷ xs) ∷ ws) ≡ unknown) (sym (same_minus d e)) (long_second p m x xs ws)
+
+    behind : (cs : Word) → ((45 ∷ cs) ≡ minus_twice → ⊥) → fault_from p (at_second false m) ((45 ∷ cs) ∷ ws) ≡ unknown
+    behind [] k = minus_second p m ws
+    behind (d ∷ ds) k = after d ds (d == 45) refl k
+
+    at : (b : Bool) → (c == 45) ≡ b → (cs : Word) → ((c ∷ cs) ≡ minus_twice → ⊥) → fault_from p (at_second false m) ((c ∷ cs) ∷ ws) ≡ unknown
+    at false e cs k = plain_second p m c cs ws e
+    at true e cs k = subst (λ (y : ℕ). ((y ∷ cs) ≡ minus_twice → ⊥) → fault_from p (at_second false m) ((y ∷ cs) ∷ ws) ≡ unknown) (sym (same_minus c e)) (behind cs) k
+
+-- ---- a word before any mode: it is refused, or is one
+
+data Met (p : ValueParser) (w : Word) (ws : List Word) : Type 0 where
+  refused : fault_from p (at_first false) (w ∷ ws) ≡ unknown → Met p w ws
+  taken : fault_from p (at_first false) (w ∷ ws) ≡ fault_from p (at_second false w) ws → walked (top p).rules [] (at_first false) w ≡ at_second false w → Met p w ws
+
+plain_first : (p : ValueParser) (c : ℕ) (cs : Word) (ws : List Word) → (c == 45) ≡ false → Met p (c ∷ cs) ws
+unfolding walk_fault walked
+plain_first p c cs ws e = taken (rw e (rw e refl)) (rw e (rw e refl))
+
+empty_first : (p : ValueParser) (ws : List Word) → Met p [] ws
+unfolding walk_fault walked
+empty_first p ws = taken refl refl
+
+minus_first : (p : ValueParser) (ws : List Word) → Met p (45 ∷ []) ws
+unfolding walk_fault walked
+minus_first p ws = taken refl refl
+
+long_first : (p : ValueParser) (x : ℕ) (xs : Word) (ws : List Word) → Met p (45 ∷ 45 ∷ x ∷ xs) ws
+unfolding walk_fault walked
+long_first p x xs ws = refused refl
+
+short_first : (p : ValueParser) (d : ℕ) (ds : Word) (ws : List Word) (o : Option ℕ) → (d == 45) ≡ false → slice_get (chars (d ∷ ds)) 0 ≡ o → Met p (45 ∷ d ∷ ds) ws
+unfolding walk_fault walked flags_fault bundle_met
+short_first p d ds ws (Some x) e o = refused (rw e (rw e (rw o refl)))
+short_first p d ds ws None e o = taken (rw e (rw e (rw o refl))) (rw e (rw e (rw o refl)))
+
+other_first : (p : ValueParser) (w : Word) (ws : List Word) → (w ≡ minus_twice → ⊥) → Met p w ws
+other_first p [] ws n = empty_first p ws
+other_first p (c ∷ cs) ws n = at (c == 45) refl cs n
+  where
+    after : (d : ℕ) (ds : Word) (b : Bool) → (d == 45) ≡ b → ((45 ∷ d ∷ ds) ≡ minus_twice → ⊥) → Met p (45 ∷ d ∷ ds) ws
+    after d ds false e k = short_first p d ds ws (slice_get (chars (d ∷ ds)) 0) e refl
+    after d [] true e k = absurd (k (ap (λ (x : ℕ). 45 ∷ x ∷ []) (same_minus d e)))
+    after d (x ∷ xs) true e k = subst (λ (y : ℕ). Met p (45 ∷ y ∷ x ∷ xs) ws) (sym (same_minus d e)) (long_first p x xs ws)
+
+    behind : (cs : Word) → ((45 ∷ cs) ≡ minus_twice → ⊥) → Met p (45 ∷ cs) ws
+    behind [] k = minus_first p ws
+    behind (d ∷ ds) k = after d ds (d == 45) refl k
+
+    at : (b : Bool) → (c == 45) ≡ b → (cs : Word) → ((c ∷ cs) ≡ minus_twice → ⊥) → Met p (c ∷ cs) ws
+    at false e cs k = plain_first p c cs ws e
+    at true e cs k = subst (λ (y : ℕ). ((y ∷ cs) ≡ minus_twice → ⊥) → Met p (y ∷ cs) ws) (sym (same_minus c e)) (behind cs) k
+
+-- ---- all the words
+
+-- what words without a fault are
+data Came (p : ValueParser) (ws : List Word) : Type 0 where
+  nothing : (t : Bool) → walk_by p (at_first false) ws ≡ at_first t → Came p ws
+  one : (t : Bool) (m : Word) → walk_by p (at_first false) ws ≡ at_second t m → (m ≡ codes "check" → is_one (modes ws) ≡ true) → Came p ws
+
+end_second : (p : ValueParser) (m : Word) (ws : List Word) → fault_from p (at_second true m) ws ≡ [] → ws ≡ []
+end_second p m [] e = refl
+end_second p m (w ∷ ws) e = absurd (not_none (sym (trailing_second p m w ws) ∙ e))
+
+dashes_second : (p : ValueParser) (m : Word) (ws : List Word) → (fault_from p (at_second false m) (minus_twice ∷ ws) ≡ fault_from p (at_second true m) ws) × (walked (top p).rules [] (at_second false m) minus_twice ≡ at_second true m)
+unfolding walk_fault walked
+dashes_second p m ws = (refl, refl)
+
+behind_second : (p : ValueParser) (m w : Word) (ws : List Word) → fault_from p (at_second false m) (w ∷ ws) ≡ [] → (w ∷ ws) ≡ minus_twice ∷ []
+behind_second p m w ws e = at (bytes_eq w minus_twice) refl
+  where
+    at : (b : Bool) → bytes_eq w minus_twice ≡ b → (w ∷ ws) ≡ minus_twice ∷ []
+    at false q = absurd (not_none (sym (other_second p m w ws (λ h. true≢false (sym ((bytes_eq-Decides w minus_twice).1 h) ∙ q))) ∙ e))
+    at true q =
+        let same : w ≡ minus_twice = (bytes_eq-Decides w minus_twice).0 q in
+        let here : fault_from p (at_second false m) (minus_twice ∷ ws) ≡ [] = subst (λ (v : Word). fault_from p (at_second false m) (v ∷ ws) ≡ []) same e in
+        let none : ws ≡ [] = end_second p m ws (sym (dashes_second p m ws).0 ∙ here) in
+        (λ i. same i ∷ none i)
+
+dashes_first : (p : ValueParser) (ws : List Word) → (fault_from p (at_first false) (minus_twice ∷ ws) ≡ fault_from p (at_first true) ws) × (walked (top p).rules [] (at_first false) minus_twice ≡ at_first true)
+unfolding walk_fault walked
+dashes_first p ws = (refl, refl)
+
+trailing_first : (p : ValueParser) (m : Word) (ws : List Word) → (fault_from p (at_first true) (m ∷ ws) ≡ fault_from p (at_second true m) ws) × (walked (top p).rules [] (at_first true) m ≡ at_second true m)
+unfolding walk_fault walked
+trailing_first p m ws = (refl, refl)
+
+-- behind `--`
+came_trailing : (p : ValueParser) (ws : List Word) → fault_from p (at_first true) ws ≡ [] → Came p (minus_twice ∷ ws)
+came_trailing p [] e = nothing true (dashes_first p []).1
+came_trailing p (m ∷ ws) e =
+    let none : ws ≡ [] = end_second p m ws (sym (trailing_first p m ws).0 ∙ e) in
+    subst (λ (vs : List Word). Came p (minus_twice ∷ m ∷ vs)) (sym none)
+    (one true m (ap (λ (w : Walk). walked (top p).rules [] w m) (dashes_first p (m ∷ [])).1 ∙ (trailing_first p m []).1) (λ c. ap (λ (x : Word). is_one (modes (minus_twice ∷ x ∷ []))) c))
+
+-- a mode, and what stands behind it
+came_mode : (p : ValueParser) (m : Word) (ws : List Word) → walked (top p).rules [] (at_first false) m ≡ at_second false m → fault_from p (at_second false m) ws ≡ [] → Came p (m ∷ ws)
+came_mode p m [] t e = one false m t (λ c. ap (λ (x : Word). is_one (modes (x ∷ []))) c)
+came_mode p m (w ∷ ws) t e =
+    subst (λ (vs : List Word). Came p (m ∷ vs)) (sym (behind_second p m w ws e))
+    (one true m (ap (λ (x : Walk). walked (top p).rules [] x minus_twice) t ∙ (dashes_second p m []).1) (λ c. ap (λ (x : Word). is_one (modes (x ∷ minus_twice ∷ []))) c))
+
+met : (p : ValueParser) (w : Word) (ws : List Word) → Met p w ws → fault_from p (at_first false) (w ∷ ws) ≡ [] → Came p (w ∷ ws)
+met p w ws (refused r) e = absurd (not_none (sym r ∙ e))
+met p w ws (taken f t) e = came_mode p w ws t (sym f ∙ e)
+
+came : (p : ValueParser) (ws : List Word) → fault_from p (at_first false) ws ≡ [] → Came p ws
+came p [] e = nothing false refl
+came p (w ∷ ws) e = at (bytes_eq w minus_twice) refl
+  where
+    at : (b : Bool) → bytes_eq w minus_twice ≡ b → Came p (w ∷ ws)
+    at false q = met p w ws (other_first p w ws (λ h. true≢false (sym ((bytes_eq-Decides w minus_twice).1 h) ∙ q))) e
+    at true q =
+        let same : w ≡ minus_twice = (bytes_eq-Decides w minus_twice).0 q in
+        let here : fault_from p (at_first false) (minus_twice ∷ ws) ≡ [] = subst (λ (v : Word). fault_from p (at_first false) (v ∷ ws) ≡ []) same e in
+        subst (λ (v : Word). Came p (v ∷ ws)) (sym same) (came_trailing p ws (sym (dashes_first p ws).0 ∙ here))
+
+-- ---- the whole parse
+
+-- what is wrong once the words are over
+abbrev end_fault : ValueParser → Walk → Kinds
+end_fault p w =
+    or_else (entered_fault (built (app p)) w.stopped) (or_else (settle_fault (top p).rules (top p).args_override_self w.held)
+    (or_else (defaults_fault (settled (top p).rules w.held).rows (top p).rules) (check_fault (top p) (finished (top p).rules w.held) (is_some (entered (built (app p)) w.stopped)))))
+
+parse_is : (p : ValueParser) (program : Word) (ws : List Word) → fault_of (app p) (program ∷ ws) ≡ or_else (fault_from p (at_first false) ws) (end_fault p (walk_by p (at_first false) ws))
+parse_is p program ws = refl
+
+front_none : (a b : Kinds) → or_else a b ≡ [] → (a ≡ []) × (b ≡ [])
+front_none [] b e = (refl, e)
+front_none (k ∷ ks) b e = absurd cc
+
+no_mode : (p : ValueParser) (t : Bool) → end_fault p (at_first t) ≡ kind.MissingRequiredArgument ∷ []
+unfolding defaults_fault
+no_mode p t = refl
+
+other_mode : (p : ValueParser) (t : Bool) (m : Word) → accepts false p m ≡ false → end_fault p (at_second t m) ≡ refused_kind p ∷ []
+unfolding defaults_fault
+other_mode p t m e = rw e refl
+
+no_words : (p : ValueParser) → fault_of (app p) [] ≡ kind.MissingRequiredArgument ∷ []
+unfolding defaults_fault walk_fault
+no_words p = refl
+
+-- a parse without a fault
+pub passes_check : (p : ValueParser) → ((t : Word) → accepts false p t ≡ true → t ≡ codes "check") → (words : List Word) → fault_of (app p) words ≡ [] → is_check words ≡ true
+passes_check p h [] e = (let f : kind.MissingRequiredArgument ∷ [] ≡ [] = sym (no_words p) ∙ e in absurd cc)
+passes_check p h (program ∷ ws) e =
+    let q = front_none (fault_from p (at_first false) ws) (end_fault p (walk_by p (at_first false) ws)) (sym (parse_is p program ws) ∙ e) in
+    at (came p ws q.0) q.1
+  where
+    mode : (t : Bool) (m : Word) → (m ≡ codes "check" → is_one (modes ws) ≡ true) → end_fault p (at_second t m) ≡ [] → (b : Bool) → accepts false p m ≡ b → is_one (modes ws) ≡ true
+    mode t m c f true a = c (h m a)
+    mode t m c f false a = (let g : refused_kind p ∷ [] ≡ [] = sym (other_mode p t m a) ∙ f in absurd cc)
+
+    at : Came p ws → end_fault p (walk_by p (at_first false) ws) ≡ [] → is_one (modes ws) ≡ true
+    at (nothing t w) f = (let g : kind.MissingRequiredArgument ∷ [] ≡ [] = sym (no_mode p t) ∙ ap (end_fault p) (sym w) ∙ f in absurd cc)
+    at (one t m w c) f = mode t m c (ap (end_fault p) (sym w) ∙ f) (accepts false p m) refl
+
+-- ---- accepted words
+
+same_some : {A : Type 0} (x y : A) → Some x ≡ Some y → x ≡ y
+same_some x y e = cc
+
+no_modes : (ws : List Word) → modes ws ≡ Some [] → (ws ≡ []) ⊎ (ws ≡ minus_twice ∷ [])
+no_modes [] e = inl refl
+no_modes (w ∷ ws) e = at (bytes_eq w minus_twice) (begins_with_minus w) refl (modes ws) e
+  where
+    at : (b d : Bool) → bytes_eq w minus_twice ≡ b → (o : Option (List Word)) → cond b (Some ws) (cond d None (with_mode w o)) ≡ Some [] → ((w ∷ ws) ≡ []) ⊎ ((w ∷ ws) ≡ minus_twice ∷ [])
+    at true d q o f = (let same : w ≡ minus_twice = (bytes_eq-Decides w minus_twice).0 q in let none : ws ≡ [] = same_some ws [] f in inr (λ i. same i ∷ none i))
+    at false true q o f = absurd cc
+    at false false q None f = absurd cc
+    at false false q (Some vs) f = (let g : w ∷ vs ≡ [] = same_some (w ∷ vs) [] f in absurd cc)
+
+one_is : (vs : List Word) → is_one (Some vs) ≡ true → vs ≡ codes "check" ∷ []
+one_is [] e = absurd cc
+one_is (m ∷ []) e = ap (λ (x : Word). x ∷ []) ((bytes_eq-Decides m (codes "check")).0 e)
+one_is (m ∷ n ∷ ms) e = absurd cc
+
+-- the words of one mode pass
+pub check_passes : (p : ValueParser) → accepts false p (codes "check") ≡ true → (words : List Word) → is_check words ≡ true → takes (app p) words ≡ true
+check_passes p a [] e = absurd cc
+check_passes p a (program ∷ []) e = absurd cc
+check_passes p a (program ∷ w ∷ ws) e = at (bytes_eq w minus_twice) (begins_with_minus w) refl (modes ws) refl e
+  where
+    behind : (vs : List Word) → (vs ≡ []) ⊎ (vs ≡ minus_twice ∷ []) → takes (app p) (program ∷ codes "check" ∷ vs) ≡ true
+    behind vs (inl n) = subst (λ (x : List Word). takes (app p) (program ∷ codes "check" ∷ x) ≡ true) (sym n) (check_taken p program a)
+    behind vs (inr n) = subst (λ (x : List Word). takes (app p) (program ∷ codes "check" ∷ x) ≡ true) (sym n) (before_taken p program a)
+
+    at : (b d : Bool) → bytes_eq w minus_twice ≡ b → (o : Option (List Word)) → modes ws ≡ o → is_one (cond b (Some ws) (cond d None (with_mode w o))) ≡ true → takes (app p) (program ∷ w ∷ ws) ≡ true
+    at true d q o m f =
+        (let same : w ≡ minus_twice = (bytes_eq-Decides w minus_twice).0 q in
+        let one : ws ≡ codes "check" ∷ [] = one_is ws f in
+        subst (λ (x : List Word). takes (app p) (program ∷ x) ≡ true) (sym (λ i. same i ∷ one i)) (behind_taken p program a))
+    at false true q o m f = absurd cc
+    at false false q None m f = absurd cc
+    at false false q (Some []) m f =
+        (let same : w ≡ codes "check" = (bytes_eq-Decides w (codes "check")).0 f in
+        subst (λ (x : Word). takes (app p) (program ∷ x ∷ ws) ≡ true) (sym same) (behind ws (no_modes ws m)))
+    at false false q (Some (v ∷ vs)) m f = absurd cc
+
+-- ---- the command that is made
+
+pub mode_is : (a0 a1 a2 a3 : Arg) (q : ValueParser) → rule_of a0 ≡ new_rule (codes "mode") → a1 ≡ record a0 { required = true } → a2 ≡ record a1 { action = Some Set } → a3 ≡ record a2 { value_parser = a3.value_parser } → a3.value_parser ≡ Some q
+    → rule_of a3 ≡ mode_rule q
+mode_is a0 a1 a2 a3 q e0 e1 e2 e3 v =
+    ap rule_of e3 ∙ (λ i. rule_of (record (e2 i) { value_parser = v i })) ∙ (λ i. rule_of (record (e1 i) { action = Some Set; value_parser = Some q }))
+    ∙ ap (λ (r : Rule). record r { required = true; action = Some Set; parser = Some q }) e0
+
+pub local_is : (a0 a1 a2 a3 : Arg) → a0.global ≡ false → a1 ≡ record a0 { required = true } → a2 ≡ record a1 { action = Some Set } → a3 ≡ record a2 { value_parser = a3.value_parser } → a3.global ≡ false
+local_is a0 a1 a2 a3 g e1 e2 e3 = ap (λ (a : Arg). a.global) e3 ∙ ap (λ (a : Arg). a.global) e2 ∙ ap (λ (a : Arg). a.global) e1 ∙ g
+
+pub command_is : (c0 c1 c2 : Command) (a : Arg) (q : ValueParser) → app_of c0 ≡ new_app (codes "hbnf") → fields_of c1 ≡ record (fields_of c0) { disable_help_flag = true } → (app_of c2 ≡ with_rule (app_of c1) (rule_of a)) → rule_of a ≡ mode_rule q
+    → app_of c2 ≡ app q
+command_is c0 c1 c2 a q e0 e1 e2 r =
+    let changed : app_of c1 ≡ app_with_no_help (app_of c0) = ap app_of_fields e1 in
+    e2 ∙ (λ i. with_rule (changed i) (r i)) ∙ ap (λ (b : App). with_rule (app_with_no_help b) (mode_rule q)) e0
+  where
+    app_with_no_help : App → App
+    app_with_no_help b = record b { top = record b.top { disable_help_flag = true } }
+
+-- the names that are compared with a value
+pub only_check : (n : List Word) (t : Word) → n ≡ codes "check" ∷ [] → list_any (λ m. same_text false m t) n ≡ true → t ≡ codes "check"
+only_check n t e h =
+    let one : (bytes_eq (codes "check") t || false) ≡ true = sym (ap (λ (ms : List Word). list_any (λ m. same_text false m t) ms) e) ∙ h in
+    sym ((bytes_eq-Decides (codes "check") t).0 (no_or (bytes_eq (codes "check") t) one))
+  where
+    no_or : (b : Bool) → (b || false) ≡ true → b ≡ true
+    no_or true k = refl
+    no_or false k = k
+
+-- ---- what the parse says
+
+pub record IsCheckParser (p : ValueParser) : Type 0 where
+  pub takes_check : accepts false p (codes "check") ≡ true
+  pub takes_no_other : (t : Word) → accepts false p t ≡ true → t ≡ codes "check"
+
+pub names_parser : (n : Bor (List (Bor Word))) (p : ValueParser) → p ≡ Names n → map (λ s. s.now) n.now ≡ codes "check" ∷ [] → IsCheckParser p
+names_parser n p e k = subst IsCheckParser (sym e) (record {
+  takes_check = any_is n.now (codes "check") ∙ ap (list_any (λ m. same_text false m (codes "check"))) k;
+  takes_no_other = λ t h. only_check (map (λ s. s.now) n.now) t k (sym (any_is n.now t) ∙ h);
+})
+  where
+    any_is : (xs : List (Bor Word)) (t : Word) → list_any (λ (name : Bor Word). same_text false name.now t) xs ≡ list_any (λ m. same_text false m t) (map (λ s. s.now) xs)
+    any_is [] t = refl
+    any_is (x ∷ xs) t = ap (λ (b : Bool). same_text false x.now t || b) (any_is xs t)
+
+pub parse_taken : {T : Type 0} (a : App) (p : ValueParser) (words : List Word) (r : Result T Error) → a ≡ app p → IsCheckParser p → (is_simple_and_free a ≡ true → FailsBy (fault_of a words) r) → IfOk r (λ m. is_check words ≡ true)
+parse_taken a p words (Ok m) e k f = passes_check p k.takes_no_other words (sym (ap (λ (b : App). fault_of b words) e) ∙ f (ap is_simple_and_free e ∙ is_simple p))
+parse_taken a p words (Err x) e k f = tt
+
+pub parse_refused : {T : Type 0} (a : App) (p : ValueParser) (words : List Word) (r : Result T Error) → a ≡ app p → IsCheckParser p → IfErr r (λ x. takes a words ≡ true → kind_of x ≡ kind.OutOfMemory)
+    → IfErr r (λ x. is_check words ≡ true → kind_of x ≡ kind.OutOfMemory)
+parse_refused a p words (Ok m) e k f = tt
+parse_refused a p words (Err x) e k f = λ h. f (ap (λ (b : App). takes b words) e ∙ check_passes p k.takes_check words h)

@@ -1,0 +1,15 @@
+use Rattle.std.proofs.Common.{◌∙◌}
+use Rattle.rule_tests.proofs.Statements.{conj_r_fits, lift_base}
+use Rattle.rule_tests.proofs.connectives.conj_r_gives.Goals as goal
+
+pub conj_r-requires-clause-base : goal.conj_r-requires-clause-base
+conj_r-requires-clause-base c = lift_base c.in_ok-a.ensures.grows c.requires.base
+
+pub conj_r-requires-clause-had_a : goal.conj_r-requires-clause-had_a
+conj_r-requires-clause-had_a c = c.in_ok-a.ensures.has
+
+pub returns : goal.returns
+returns c = c.in_ok-th.ensures.grows.defs ∙ c.in_ok-a.ensures.grows.defs
+
+pub conj_r-requires-clause-fits : goal.conj_r-requires-clause-fits
+conj_r-requires-clause-fits c = conj_r_fits c.args.p.now c.args.q.now c.in_ok-a.a.sequent (c.in_ok-a.ensures.concl ∙ c.in_ok-both.ensures.exact)

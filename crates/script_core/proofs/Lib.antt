@@ -1,0 +1,9 @@
+pub mod Numbers
+pub mod EntryLemmas
+pub mod PairLemmas
+pub mod ConversionLemmas
+pub mod SaidLemmas
+pub mod ShelfLemmas
+pub mod TableLemmas
+pub mod Closed
+mod Trials

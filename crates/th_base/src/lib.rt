@@ -1,0 +1,10 @@
+//! The first library: logic, choice, the conditional, unit, products and sums, proved by tables from the base definitions.
+#![tactic(auto)]
+
+mod building;
+mod closed;
+mod define;
+mod step;
+mod tables;
+
+pub use building::build;

@@ -1,0 +1,13 @@
+//! The steps in which the library is built.
+
+use stmt_core::Fact;
+
+/// A step.
+pub(crate) enum Step {
+    /// Makes a base definition, a constant's, by the number of those before it.
+    Constant(u32),
+    /// Makes that of a type, from the table of a theorem that something is of the type.
+    NewType(u32, &'static str),
+    /// Proves a fact, from facts by a table.
+    Prove(Fact, &'static [Fact], &'static str),
+}

@@ -1,0 +1,1 @@
+"""Proofs of the first library, and what makes proof tables of them: see ../README.md."""

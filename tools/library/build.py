@@ -1,0 +1,98 @@
+"""The first library as it is built: the base definitions in their order, and between them the facts that scripts prove."""
+
+from dataclasses import dataclass
+
+from . import sources
+from .derived import Rules
+from .kernel import Theory
+from .script import Line, Proof, Wrong
+from .text import term_text
+
+
+def make(theory, line, a=None):
+    """Adds the definition of a line of canonical text to a theory; that of a type from the theorem that it has an element."""
+    word, rest = line.split(" ", 1)
+    left_side, body = rest.split(" = ", 1)
+    if word == "def":
+        name, ty = left_side.split(" : ")
+        theory.define(name, theory.signature.read_term(body, {}, theory.signature.read_type(ty)))
+    else:
+        if term_text(a.concl.fun) != body:
+            raise Wrong("%r is of another type than %s" % (a, left_side))
+        theory.define_type(left_side.split(" ")[-1], a)
+
+
+@dataclass
+class Entry:
+    """What a proof is for: a fact with its group, or a type that has an element (no group)."""
+
+    name: str
+    group: str | None
+    sentence: str
+    statement: object  # the term that has to be proved
+    result: Line
+
+
+class Library:
+    """The first library: the base definitions, and between them the facts, in the order in which they are built."""
+
+    def __init__(self):
+        self.theory = Theory()
+        self.stated = sources.stated_facts()
+        self.base, axioms = sources.base_lines()
+        self.steps = []  # ("define", n, None), ("type", n, Entry) or ("fact", None, Entry)
+        self.proved = {}
+        for line in self.base[:10]:
+            make(self.theory, line)
+        self.theory.axioms = [self.theory.signature.read_term(text) for text in axioms]
+        self.rules = Rules(self.theory)
+
+    def define(self, *numbers):
+        for n in numbers:
+            self.make(n)
+            self.steps.append(("define", n, None))
+
+    def make(self, n, a=None):
+        if n != len(self.theory.names) + 1:
+            raise Wrong("base definition %d is not the next one" % n)
+        make(self.theory, self.base[n - 1], a)
+
+    def thm(self, name):
+        return self.proved[name].result.thm
+
+    def run(self, script, group, sentence, statement):
+        """Runs a script that is named as what it proves: `excluded_middle` is for ExcludedMiddle."""
+        name = name_of(script)
+        result = script(Proof(self))
+        if result.thm.hyps or statement not in (None, result.concl):
+            raise Wrong("%s gives %r where %r is stated" % (name, result.thm, statement))
+        self.proved[name] = Entry(name, group, sentence, statement, result)
+        return self.proved[name]
+
+    def fact(self, script):
+        """A script that proves the fact of its name."""
+        group = next((group for group, name in self.stated if name == name_of(script)), None)
+        if group is None:
+            raise Wrong("no fact %s is stated" % name_of(script))
+        sentence, text = self.stated[group, name_of(script)]
+        entry = self.run(script, group, sentence, self.theory.signature.read_term(text))
+        self.steps.append(("fact", None, entry))
+        return script
+
+    def makes_type(self, n):
+        """A script that shows an element of the type of base definition n, which is made then."""
+
+        def run(script):
+            entry = self.run(script, None, script.__doc__, None)
+            self.make(n, entry.result.thm)
+            self.steps.append(("type", n, entry))
+            return script
+
+        return run
+
+
+def name_of(script):
+    return "".join(word.capitalize() for word in script.__name__.split("_"))
+
+
+LIBRARY = Library()

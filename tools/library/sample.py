@@ -1,0 +1,33 @@
+"""A table with a line of each kind, and no fact. It proves nothing of use: it is there to compare the two ways in which a line is
+computed, and for tests of what runs tables."""
+
+
+def every_line(s):
+    s.fix("p q v:bool, f:'a -> bool, x y:'a")
+    p = s.assume("p")
+    q = s.norm(s.assume(r"(\y. y) q"))
+    both = s.conj_i(p, q)
+    s.conj_l(both)
+    s.conj_r(both)
+    one = s.disj_e(s.assume(r"p \/ q"), s.disj_l(p, "q"), s.disj_r("p", q))
+    s.not_i(s.disch("~ p", s.mp(s.not_e(s.assume("~ p")), p)))
+    true = s.eqt_i(p)
+    s.eqt_e(s.refl("T"))
+    s.subst("v", r"v /\ q", true, both)
+    s.rewrite_at(r"p /\ p", true, 1)
+    s.rewrite_at(r"\z. p = z", true, 0, 0, 1)
+    s.comb(s.refl("not"), s.trans(s.beta_conv(r"(\y. y) (p /\ p)"), s.rewrite_all(r"p /\ p", true)))
+    s.rewrite_all("q", true)
+    s.beta_norm(r"\z. (\y. y /\ z) ((\y. y) p)")
+    s.beta(r"(\y. y) p")
+    s.abs("x", s.refl("f x"))
+    s.spec(s.gen("x", s.refl("f x")), "y")
+    s.inst_type(s.eta_conv(r"\x. f x"), a="bool", b="'a")
+    s.axiom(3)
+    s.definition("conj")
+    s.type_abs("unit")
+    s.type_rep("unit")
+    equal = s.assume("v = p")
+    shown = s.ex_i("?z:bool. z", "v", s.eq_mp(s.sym(equal), p))
+    shown = s.choose("v", s.ex_i("?z. z = p", "p", s.refl("p")), shown)
+    return s.inst(s.deduct(shown, one), p="q", q="p")
