@@ -12,6 +12,7 @@ use Rattle.hol_terms.specs.Base.{base, base_definitions}
 use Rattle.hol_terms.proofs.AsciiNames.{is_ascii_segment, is_segment_from_ascii}
 use Rattle.hol_terms.proofs.BaseOpened.{opened_bases}
 use Rattle.hol_text.specs.Over.{GivesTypes}
+use Rattle.hb_top.specs.Answer.{in_force}
 
 -- a type over the signature whose type variables are ASCII
 abbrev mutual
@@ -49,9 +50,9 @@ found_over s (p ∷ es) c g h e =
     at true o f k = over s g (ap (is_over s) (sym (same_some p.1 g k)) ∙ o)
     at false o f k = f k
 
-all_generics : list_all (λ e. is_over (signature_of (base 10)) e.1) (signature_of (base 10)).consts ≡ true
+all_generics : list_all (λ e. is_over (signature_of (base in_force)) e.1) (signature_of (base in_force)).consts ≡ true
 unfolding opened_bases base_definitions
 all_generics = refl
 
-pub base_gives_types : GivesTypes (signature_of (base 10))
-base_gives_types = record { fun_takes_two = refl; generics = λ c g e. found_over (signature_of (base 10)) (signature_of (base 10)).consts c g all_generics e }
+pub base_gives_types : GivesTypes (signature_of (base in_force))
+base_gives_types = record { fun_takes_two = refl; generics = λ c g e. found_over (signature_of (base in_force)) (signature_of (base in_force)).consts c g all_generics e }

@@ -1,4 +1,6 @@
 pub mod OutputLines
+pub mod Shelves
+pub mod Conservative
 pub mod Lines
 pub mod BaseTypes
 pub mod Outputs

@@ -23,6 +23,7 @@ use Rattle.hol_terms.specs.Tokens.{starts, continues}
 use Rattle.hol_terms.specs.Text.{Text, ty_text, tys_texts, parenthesized, with_arguments, with_commas, application_text, is_arrow, bound_text, Sugar, between, before, binding, none, sign_between, sign_binding, sign_before, sugar, whole_text, is_plain, is_atom, is_function, Printed, printed, tm_text}
 use Rattle.hol_terms.proofs.BaseOpened.{opened_bases}
 use Rattle.hol_text.proofs.Characters.{starts-is, continues-is}
+use Rattle.hb_top.specs.Answer.{in_force}
 use Rattle.hb_top.proofs.OutputLines.{is_line}
 
 pub line_append : (a b : Text) → is_line a ≡ true → is_line b ≡ true → is_line (a ++ b) ≡ true
@@ -139,15 +140,15 @@ pub record NamesAreLines (s : Signature) : Type 0 where
   pub types : are_lines s.types ≡ true
   pub consts : are_lines s.consts ≡ true
 
-base_types : are_lines (signature_of (base 10)).types ≡ true
+base_types : are_lines (signature_of (base in_force)).types ≡ true
 unfolding opened_bases base_definitions
 base_types = refl
 
-base_consts : are_lines (signature_of (base 10)).consts ≡ true
+base_consts : are_lines (signature_of (base in_force)).consts ≡ true
 unfolding opened_bases base_definitions
 base_consts = refl
 
-pub base_lines : NamesAreLines (signature_of (base 10))
+pub base_lines : NamesAreLines (signature_of (base in_force))
 base_lines = record { types = base_types; consts = base_consts }
 
 -- ---- types

@@ -18,7 +18,6 @@ use Rattle.hol_terms.specs.Text.{Text, ty_text, tm_text, definition_line}
 use Rattle.hol_terms.specs.Sound.{AreSoundAfter}
 use Rattle.hol_terms.specs.Base.{base}
 use Rattle.hol_terms.proofs.Defining.{const_derivable}
-use Rattle.hol_terms.proofs.BaseTyped.{base_conservative}
 use Rattle.hol_terms.proofs.Typed.{IsOver-type}
 use Rattle.theory_text.specs.Command.{Define, define_of}
 use Rattle.theory_text.specs.Definable.{IsDefinable}
@@ -64,12 +63,12 @@ answer_front b =
 
 -- lines that answer the text are an output to it
 check_lines : (b : Text) (decided : Bool) (ls : List Text) (sections : List Section) (ending : List Text) → list_all is_line ls ≡ true → filter is_answer_line ls ≡ answer b
-    → list_any is_refusal (filter is_answer_line ls) ≡ decided → AreSoundAfter (base 10) ls → ls ≡ base_line ∷ flat_map section_lines sections ++ ending
+    → list_any is_refusal (filter is_answer_line ls) ≡ decided → AreSoundAfter (base in_force) ls → ls ≡ base_line ∷ flat_map section_lines sections ++ ending
     → All (λ s. All IsTheoremLine s.theorems) sections → IsEnding ending → IsCheck b (unlines ls) decided
 check_lines b decided ls sections ending l a r s e t i = record {
   answered = answers_read ls l ∙ a;
   decided = ap (list_any is_refusal) (sym a) ∙ r;
-  sound = sound_from_lines (base 10) ls l s;
+  sound = sound_from_lines (base in_force) ls l s;
   owned = owned_from_lines sections ending ls l e t i;
 }
 
@@ -104,12 +103,12 @@ record AreLines (d : Define) : Type 0 where
   body : is_term_line d.body ≡ true
   stray : is_line d.stray ≡ true
 
-stray_is_line : (d : Define) → IsDefinable (signature_of (base 10)) d → is_line d.stray ≡ true
+stray_is_line : (d : Define) → IsDefinable (signature_of (base in_force)) d → is_line d.stray ≡ true
 stray_is_line d h = elim h.stray [ inl e ↦ ap is_line e | inr s ↦ segment_line d.stray s ]
 
-are_lines : (d : Define) → IsDefinable (signature_of (base 10)) d → AreLines d
+are_lines : (d : Define) → IsDefinable (signature_of (base in_force)) d → AreLines d
 are_lines d h =
-    let s = signature_of (base 10) in
+    let s = signature_of (base in_force) in
     let named = and_parts (is_name d.name && not (is_numbered d.name)) (is_new s d.name) h.named in
     record {
       name = name_line d.name (and_parts (is_name d.name) (not (is_numbered d.name)) named.0).0;
@@ -141,7 +140,7 @@ section_laid_out : (d : Define) → defined_lines d ≡ base_line ∷ flat_map s
 unfolding digits
 section_laid_out d = refl
 
-const_def_of : (d : Define) → IsDefinable (signature_of (base 10)) d → is_conservative d ≡ true → IsConstDef (base 10) d.name d.body
+const_def_of : (d : Define) → IsDefinable (signature_of (base in_force)) d → is_conservative d ≡ true → IsConstDef (base in_force) d.name d.body
 const_def_of d h c = record { named = h.named; closed = h.closed; covered = c; typed = h.typed }
 
 section_sound : (ds : List Definition) (d : Define) → AreConservative ds → IsConstDef ds d.name d.body → AreSoundAfter ds (definition_line (const_def d.name d.body) ∷ define_fact d ∷ [])
@@ -161,21 +160,21 @@ pub check_unbuilt : (b out : Text) (r : Bool) → length b ≤ limit → b ≢ [
 check_unbuilt b out r h n o e f =
     subst (λ o. IsCheck b o r) (sym e) (check_lines b r (refusal_lines unbuilt_line) [] (unbuilt_line ∷ []) (two_lines base_line unbuilt_line base_is_line refl) (sym (answer_read b h n None o)) (sym f) tt refl (All-nil _) (refused unbuilt_line refl))
 
-defined : (b : Text) (d : Define) → IsDefinable (signature_of (base 10)) d → is_conservative d ≡ true → answer b ≡ base_line ∷ command_lines (Some d) → IsCheck b (unlines (defined_lines d)) false
-defined b d h c a =
+defined : (b : Text) (d : Define) → AreConservative (base in_force) → IsDefinable (signature_of (base in_force)) d → is_conservative d ≡ true → answer b ≡ base_line ∷ command_lines (Some d) → IsCheck b (unlines (defined_lines d)) false
+defined b d k h c a =
     let same : base_line ∷ section_line d ∷ define_fact d ∷ [] ≡ answer b = sym (a ∙ ap (λ (t : Bool). base_line ∷ cond t (section_line d ∷ define_fact d ∷ []) (stray_line d ∷ [])) c) in
-    check_lines b false (defined_lines d) (section_of d ∷ []) [] (defined_are_lines d (are_lines d h)) same refl (section_sound (base 10) d base_conservative (const_def_of d h c)) (section_laid_out d)
+    check_lines b false (defined_lines d) (section_of d ∷ []) [] (defined_are_lines d (are_lines d h)) same refl (section_sound (base in_force) d k (const_def_of d h c)) (section_laid_out d)
     (All-cons (λ s. All IsTheoremLine s.theorems) (section_of d) [] (All-cons IsTheoremLine (define_fact d) [] refl (All-nil IsTheoremLine)) (All-nil _))
     accepted
 
-strayed : (b : Text) (d : Define) → IsDefinable (signature_of (base 10)) d → is_conservative d ≡ false → answer b ≡ base_line ∷ command_lines (Some d) → IsCheck b (unlines (refused_lines d)) true
+strayed : (b : Text) (d : Define) → IsDefinable (signature_of (base in_force)) d → is_conservative d ≡ false → answer b ≡ base_line ∷ command_lines (Some d) → IsCheck b (unlines (refused_lines d)) true
 strayed b d h c a =
     let same : base_line ∷ stray_line d ∷ [] ≡ answer b = sym (a ∙ ap (λ (t : Bool). base_line ∷ cond t (section_line d ∷ define_fact d ∷ []) (stray_line d ∷ [])) c) in
     check_lines b true (refused_lines d) [] (stray_line d ∷ []) (refused_are_lines d (are_lines d h)) same refl tt refl (All-nil _) (refused (stray_line d) refl)
 
-pub check_define : (b out : Text) (r : Bool) (d : Define) → length b ≤ limit → b ≢ [] → define_of (signature_of (base in_force)) b ≡ Some d → IsDefinable (signature_of (base in_force)) d → IsOutputOf d out r → IsCheck b out r
-check_define b out r d l n e h o = at (is_conservative d) refl o.text o.decided
+pub check_define : (b out : Text) (r : Bool) (d : Define) → length b ≤ limit → b ≢ [] → define_of (signature_of (base in_force)) b ≡ Some d → IsDefinable (signature_of (base in_force)) d → IsOutputOf d out r → (r ≡ false → AreConservative (base in_force)) → IsCheck b out r
+check_define b out r d l n e h o k = at (is_conservative d) refl o.text o.decided
   where
     at : (c : Bool) → is_conservative d ≡ c → out ≡ unlines (cond c (defined_lines d) (refused_lines d)) → r ≡ not c → IsCheck b out r
-    at true c t f = subst (λ (x : Text). IsCheck b x r) (sym t) (subst (λ (x : Bool). IsCheck b (unlines (defined_lines d)) x) (sym f) (defined b d h c (answer_read b l n (Some d) e)))
+    at true c t f = subst (λ (x : Text). IsCheck b x r) (sym t) (subst (λ (x : Bool). IsCheck b (unlines (defined_lines d)) x) (sym f) (defined b d (k f) h c (answer_read b l n (Some d) e)))
     at false c t f = subst (λ (x : Text). IsCheck b x r) (sym t) (subst (λ (x : Bool). IsCheck b (unlines (refused_lines d)) x) (sym f) (strayed b d h c (answer_read b l n (Some d) e)))

@@ -16,7 +16,7 @@ limit = 1048576
 
 -- how many base definitions are in force
 abbrev pub in_force : ℕ
-in_force = 10
+in_force = 33
 
 abbrev pub base_line : Text
 base_line = codes "base " ++ decimal in_force

@@ -1,6 +1,7 @@
 //! The calls of the program `hbnf`, from words and bytes to lines and a status.
 #![tactic(auto)]
 
+mod base;
 mod input;
 mod output;
 mod top;

@@ -1,9 +1,10 @@
 //! The output that answers an input.
 
-ghost use Rattle.std.specs.Prelude.{◌≡◌, true, [], ◌∷◌, ◌++◌, None, codes, string_bytes, IfOk, OnOk};
+ghost use Rattle.std.specs.Prelude.{◌≡◌, true, false, [], ◌∷◌, ◌++◌, None, codes, string_bytes, IfOk, OnOk};
 ghost use Rattle.std.specs.Fmt.{decimal};
 ghost use Rattle.hol_terms.specs.Base.{base};
 ghost use Rattle.hol_terms.specs.Definition.{const_def, signature_of};
+ghost use Rattle.hol_terms.specs.Proves.{AreConservative};
 ghost use Rattle.hol_terms.specs.Signature.{IsOver};
 ghost use Rattle.hol_terms.specs.Sequent.{eq_tm};
 ghost use Rattle.hol_terms.specs.Text.{definition_line, theorem_line};
@@ -17,11 +18,11 @@ ghost use Rattle.hb_top.specs.Outcome.{IsOutputOf};
 ghost use Rattle.theory_text.specs.Definable.{IsDefinable};
 ghost use Rattle.theory_text.specs.Views.{define_view};
 
+use crate::base::base_kernel;
 use crate::input::LIMIT;
 use hol_kernel::Kernel;
 use hol_terms::terms::Term;
 use hol_text::print::{definition_line, theorem_line};
-use kernel_lines::start;
 use std::alloc::{AllocError, Global};
 use theory_text::command::{DefineCommand, read_define};
 
@@ -36,7 +37,7 @@ pub(crate) struct Output {
 pub(crate) fn output_of(alloc: Global, input: &[u8]) -> Result<Output, AllocError>
     ensures { IfOk result (λ o. IsCheck input.now (string_bytes o.text) o.refused) }
 {
-    let mut kernel = start(alloc)?;
+    let mut kernel = base_kernel(alloc)?;
     if input.len() > LIMIT {
         return refusal(alloc, "limit input 1048576");
     }
@@ -53,7 +54,8 @@ pub(crate) fn output_of(alloc: Global, input: &[u8]) -> Result<Output, AllocErro
     output_of_define(alloc, &mut kernel, &command)
 }
 
-/// The output of a definition: its section, or its refusal where its term has a type variable that its type has not.
+/// The output of a definition: its section, or its refusal where its term has a type variable that its type has not. A definition
+/// is made over the base definitions, which are then conservative.
 fn output_of_define(
     alloc: Global,
     kernel: &mut Kernel,
@@ -61,7 +63,8 @@ fn output_of_define(
 ) -> Result<Output, AllocError>
     requires base { kernel.old.defs ≡ base in_force }
     requires definable { IsDefinable (signature_of (base in_force)) (define_view command.now) }
-    ensures { IfOk result (λ o. IsOutputOf (define_view command.now) (string_bytes o.text) o.refused) }
+    ensures output { IfOk result (λ o. IsOutputOf (define_view command.now) (string_bytes o.text) o.refused) }
+    ensures conservative { IfOk result (λ o. o.refused ≡ false → AreConservative (base in_force)) }
 {
     if !command.body.is_within(command.body.type_of()) {
         return stray_refusal(alloc, command);
@@ -77,7 +80,7 @@ fn output_of_define(
 fn begin(alloc: Global) -> Result<String, AllocError>
     ensures { IfOk result (λ text. string_bytes text ≡ unlines (base_line ∷ [])) }
 {
-    String::from_str(alloc, "base 10\n")
+    String::from_str(alloc, "base 33\n")
 }
 
 fn push_line(text: &mut String, line: &str) -> Result<(), AllocError>
@@ -121,7 +124,7 @@ fn stray_refusal(alloc: Global, command: &DefineCommand) -> Result<Output, Alloc
 }
 
 /// The base line and the section of a `define`: the constant is defined in the kernel, and the theorem line is the theorem that
-/// this gives.
+/// this gives. A theorem is derivable over conservative definitions, so those before it are conservative too.
 fn section(
     alloc: Global,
     kernel: &mut Kernel,
@@ -130,8 +133,9 @@ fn section(
 ) -> Result<String, AllocError>
     requires fit { const_fault kernel.old.defs name.now body.now ≡ None }
     requires typed { IsOver (signature_of kernel.old.defs) [] body.now }
-    ensures { IfOk result (λ text. string_bytes text ≡ unlines (base_line ∷ (codes "command 1 define " ++ name.now) ∷ definition_line (const_def name.now body.now)
+    ensures text { IfOk result (λ text. string_bytes text ≡ unlines (base_line ∷ (codes "command 1 define " ++ name.now) ∷ definition_line (const_def name.now body.now)
         ∷ theorem_line (name.now ++ codes ".def") (eq_tm (own_const name.now (tm_type body.now)) body.now) ∷ [])) }
+    ensures conservative { IfOk result (λ text. AreConservative kernel.old.defs) }
 {
     let th = kernel.define(alloc, name, body)?;
     let definition = definition_line(alloc, name, body)?;

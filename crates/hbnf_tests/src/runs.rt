@@ -14,7 +14,7 @@ use std::test::Fail;
 const IDENTITY: &str = "define ident : 'a -> 'a = \\y:'a. y;";
 
 const IDENTITY_OUTPUT: &str =
-    "base 10\ncommand 1 define ident\ndef ident : 'a -> 'a = \\x0:'a. x0\nthm ident.def : ident{'a} = (\\x0:'a. x0)\n";
+    "base 33\ncommand 1 define ident\ndef ident : 'a -> 'a = \\x0:'a. x0\nthm ident.def : ident{'a} = (\\x0:'a. x0)\n";
 
 fn owned(alloc: Global, words: &[&str]) -> Result<Vec<String>, AllocError> {
     let mut owned = Vec::new(alloc);
@@ -46,64 +46,103 @@ fn expect_check(
 }
 
 // Accepted texts and their outputs.
-static DONE: [(&str, &str); 8] = [
-    ("", "base 10\n"),
+static DONE: [(&str, &str); 14] = [
+    ("", "base 33\n"),
     (IDENTITY, IDENTITY_OUTPUT),
     (
         "define t : bool -> (bool -> ind) -> bool = \\a:bool. \\a:bool -> ind. T;",
-        "base 10\ncommand 1 define t\ndef t : bool -> (bool -> ind) -> bool = \\x0:bool. \\x1:bool -> ind. T\nthm t.def : t = (\\x0:bool. \\x1:bool -> ind. T)\n",
+        "base 33\ncommand 1 define t\ndef t : bool -> (bool -> ind) -> bool = \\x0:bool. \\x1:bool -> ind. T\nthm t.def : t = (\\x0:bool. \\x1:bool -> ind. T)\n",
     ),
     (
         "define _0 : 'b -> ind -> ind = \\a:'b. \\a:ind. a;",
-        "base 10\ncommand 1 define _0\ndef _0 : 'b -> ind -> ind = \\x0:'b. \\x1:ind. x1\nthm _0.def : _0{'b} = (\\x0:'b. \\x1:ind. x1)\n",
+        "base 33\ncommand 1 define _0\ndef _0 : 'b -> ind -> ind = \\x0:'b. \\x1:ind. x1\nthm _0.def : _0{'b} = (\\x0:'b. \\x1:ind. x1)\n",
     ),
     (
         "define\tf#;\n:bool=(F);",
-        "base 10\ncommand 1 define f\ndef f : bool = F\nthm f.def : f = F\n",
+        "base 33\ncommand 1 define f\ndef f : bool = F\nthm f.def : f = F\n",
     ),
     (
         "define f : ('a,bool) fun = \\y:'a. !T:bool. (T /\\ F) ==> (~ (y = y));",
-        "base 10\ncommand 1 define f\ndef f : 'a -> bool = \\x0:'a. !x1:bool. (x1 /\\ F) ==> (~ (x0 = x0))\nthm f.def : f{'a} = (\\x0:'a. !x1:bool. (x1 /\\ F) ==> (~ (x0 = x0)))\n",
+        "base 33\ncommand 1 define f\ndef f : 'a -> bool = \\x0:'a. !x1:bool. (x1 /\\ F) ==> (~ (x0 = x0))\nthm f.def : f{'a} = (\\x0:'a. !x1:bool. (x1 /\\ F) ==> (~ (x0 = x0)))\n",
     ),
     (
         "define \u{e9}l : 'x -> bool = \\T:'x. one_one{'x,'x} (\\y:'x. T);",
-        "base 10\ncommand 1 define \u{e9}l\ndef \u{e9}l : 'x -> bool = \\x0:'x. one_one{'x,'x} (\\x1:'x. x0)\nthm \u{e9}l.def : \u{e9}l{'x} = (\\x0:'x. one_one{'x,'x} (\\x1:'x. x0))\n",
+        "base 33\ncommand 1 define \u{e9}l\ndef \u{e9}l : 'x -> bool = \\x0:'x. one_one{'x,'x} (\\x1:'x. x0)\nthm \u{e9}l.def : \u{e9}l{'x} = (\\x0:'x. one_one{'x,'x} (\\x1:'x. x0))\n",
+    ),
+    (
+        "define swap : ('a,'b) prod -> ('b,'a) prod = \\p:('a,'b) prod. pair{'b,'a} (snd{'a,'b} p) (fst{'a,'b} p);",
+        "base 33\ncommand 1 define swap\ndef swap : ('a,'b) prod -> ('b,'a) prod = \\x0:('a,'b) prod. pair{'b,'a} (snd{'a,'b} x0) (fst{'a,'b} x0)\nthm swap.def : swap{'a,'b} = (\\x0:('a,'b) prod. pair{'b,'a} (snd{'a,'b} x0) (fst{'a,'b} x0))\n",
+    ),
+    (
+        "define right : ind -> ('a -> bool,ind) sum = \\y:ind. (inr{ind,'a -> bool}) y;",
+        "base 33\ncommand 1 define right\ndef right : ind -> ('a -> bool,ind) sum = \\x0:ind. inr{ind,'a -> bool} x0\nthm right.def : right{'a} = (\\x0:ind. inr{ind,'a -> bool} x0)\n",
+    ),
+    (
+        "define untag : ('a,'a) sum -> 'a = sum.case{'a,'a,'a} id{'a} id{'a};",
+        "base 33\ncommand 1 define untag\ndef untag : ('a,'a) sum -> 'a = sum.case{'a,'a,'a} id{'a} id{'a}\nthm untag.def : untag{'a} = sum.case{'a,'a,'a} id{'a} id{'a}\n",
+    ),
+    (
+        "define star : bool -> unit = \\b:bool. if{unit} b one (unit.abs T);",
+        "base 33\ncommand 1 define star\ndef star : bool -> unit = \\x0:bool. if{unit} x0 one (unit.abs T)\nthm star.def : star = (\\x0:bool. if{unit} x0 one (unit.abs T))\n",
     ),
     (
         "define q : bool = !y:'a.T;",
-        "base 10\nrefused conservativity 'a 21\n",
+        "base 33\nrefused conservativity 'a 21\n",
+    ),
+    (
+        "define bad : bool = (\\y:'a. y) = (\\y:'a. y);",
+        "base 33\nrefused conservativity 'a 24\n",
+    ),
+    (
+        "define same : unit -> bool = \\u:unit. fst{'a,unit} = fst{'a,unit};",
+        "base 33\nrefused conservativity 'a 42\n",
     ),
 ];
 
-// Texts that are no command.
-static REFUSED: [&[u8]; 27] = [
-    b"define q : bool = suc;",
-    b"define q : bool = suc 0;",
-    b"define a : bool = T",
+// Texts that define a name that isn't free, or have a type variable that is reserved.
+static NO_NAMES: [&[u8]; 11] = [
     b"define T : bool = F;",
     b"define one_one : bool = F;",
+    b"define pair : bool = F;",
+    b"define unit : bool = F;",
+    b"define id : 'a -> 'a = \\y:'a. y;",
     b"define x1 : bool = T;",
     b"define plugin : bool = T;",
     b"define where : bool = T;",
     b"define a.b : bool = T;",
+    b"define q : 'x1 -> bool = \\a:'x1. T;",
+    b"define q : bool = (\\a:'x1. T) = (\\a:'x1. T);",
+];
+
+// Texts that are no command by the grammar.
+static NO_COMMANDS: [&[u8]; 11] = [
+    b"define a : bool = T",
     b"define q : bool = T;\n",
     b" define q : bool = T;",
     b"define q : bool = T; #;",
-    b"define q : 'x1 -> bool = \\a:'x1. T;",
-    b"define q : bool = (\\a:'x1. T) = (\\a:'x1. T);",
     b"define q : ind -> ind = \\and:ind. and;",
     b"define q : bool = !a.b:bool. T;",
     b"define q : bool = T\xFF;",
     b"define q : bool = #\xFF\nT;",
+    b"define q : bool = T; define r : bool = T;",
+    b"define q : bool = T$;",
+    b"definition",
+];
+
+// Texts with a name that is unknown or has other arguments, an ill-typed application, a free variable, or another type than stated.
+static NO_TERMS: [&[u8]; 12] = [
+    b"define q : bool = suc;",
+    b"define q : bool = suc 0;",
     b"define q : bool = p;",
     b"define q : bool = [p:bool];",
     b"define q : ind = T;",
     b"define q : bool = T T;",
     b"define q : bool bool = T;",
-    b"define q : bool = T; define r : bool = T;",
     b"define q : bool = one_one T;",
-    b"define q : bool = T$;",
-    b"definition",
+    b"define q : bool = inl;",
+    b"define q : bool = fst{bool,bool} T;",
+    b"define q : num -> num = \\n:num. n;",
+    b"define q : bool prod = \\y:bool. y;",
 ];
 
 // A text whose output ends in a refusal is refused.
@@ -116,32 +155,50 @@ fn status_of(output: &str) -> Status {
 }
 
 #[test]
-fn rows(rt: HostRuntime) -> Result<(), Fail> {
+fn definitions_are_made(rt: HostRuntime) -> Result<(), Fail> {
     for (input, want) in &DONE {
         for piece in [4, 4096] {
-            expect_check(
-                &rt,
-                rt.alloc(),
-                input.as_bytes(),
-                piece,
-                (status_of(want), want),
-            )?;
+            let want = (status_of(want), *want);
+            expect_check(&rt, rt.alloc(), input.as_bytes(), piece, want)?;
         }
     }
-    for input in &REFUSED {
+    Ok(())
+}
+
+// Each of the texts is answered that it isn't built.
+fn expect_unbuilt(rt: &impl Abort, alloc: Global, inputs: &[&[u8]]) -> Result<(), AllocError> {
+    for input in inputs {
         for piece in [4, 4096] {
-            let want = "base 10\nrefused unbuilt - 0\n";
-            expect_check(&rt, rt.alloc(), input, piece, (Status::Refused, want))?;
+            let want = "base 33\nrefused unbuilt - 0\n";
+            expect_check(rt, alloc, input, piece, (Status::Refused, want))?;
         }
     }
     Ok(())
 }
 
 #[test]
+fn names_that_are_not_free(rt: HostRuntime) -> Result<(), Fail> {
+    expect_unbuilt(&rt, rt.alloc(), &NO_NAMES)?;
+    Ok(())
+}
+
+#[test]
+fn texts_that_are_no_command(rt: HostRuntime) -> Result<(), Fail> {
+    expect_unbuilt(&rt, rt.alloc(), &NO_COMMANDS)?;
+    Ok(())
+}
+
+#[test]
+fn terms_that_mean_nothing(rt: HostRuntime) -> Result<(), Fail> {
+    expect_unbuilt(&rt, rt.alloc(), &NO_TERMS)?;
+    Ok(())
+}
+
+#[test]
 fn limit(rt: HostRuntime) -> Result<(), Fail> {
     let table = [
-        (1_048_576, "base 10\nrefused unbuilt - 0\n"),
-        (1_048_577, "base 10\nrefused limit input 1048576\n"),
+        (1_048_576, "base 33\nrefused unbuilt - 0\n"),
+        (1_048_577, "base 33\nrefused limit input 1048576\n"),
     ];
     for (count, want) in table {
         let input = vec![in rt.alloc(); b'a'; count]?;
@@ -173,13 +230,13 @@ fn nested(
 #[test]
 fn limits_of_tokens(rt: HostRuntime) -> Result<(), Fail> {
     let alloc = rt.alloc();
-    let unbuilt = "base 10\nrefused unbuilt - 0\n";
+    let unbuilt = "base 33\nrefused unbuilt - 0\n";
     // A type of 256 tokens, and of 257.
     let type_table = [
         (
             "(bool,bool) fun",
             125,
-            "base 10\ncommand 1 define q\ndef q : bool = !x0:bool -> bool. T\nthm q.def : q = (!x0:bool -> bool. T)\n",
+            "base 33\ncommand 1 define q\ndef q : bool = !x0:bool -> bool. T\nthm q.def : q = (!x0:bool -> bool. T)\n",
         ),
         ("bool", 128, unbuilt),
     ];
@@ -192,7 +249,7 @@ fn limits_of_tokens(rt: HostRuntime) -> Result<(), Fail> {
         (
             "~ T",
             511,
-            "base 10\ncommand 1 define q\ndef q : bool = ~ T\nthm q.def : q = (~ T)\n",
+            "base 33\ncommand 1 define q\ndef q : bool = ~ T\nthm q.def : q = (~ T)\n",
         ),
         ("T", 512, unbuilt),
     ];

@@ -84,6 +84,8 @@ fn each_fact_is_proved(rt: HostRuntime) -> Result<(), Fail> {
     let alloc = rt.alloc();
     let (kernel, shelf) = built(alloc)?;
     assert_eq!(rt; kernel.defs().len(), 33);
+    // The steps of the kernel that the start of `hbnf` takes.
+    assert_eq!(rt; kernel.steps().len(), 37_564);
     for fact in &FACTS {
         assert!(rt; is_proved(alloc, &shelf, *fact)?);
     }

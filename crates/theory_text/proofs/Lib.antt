@@ -1,2 +1,5 @@
 pub mod Bytes
 pub mod Stated
+pub mod VariablesOfTypes
+pub mod VariablesOfTerms
+pub mod Strayed

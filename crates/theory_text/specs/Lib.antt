@@ -1,3 +1,4 @@
 pub mod Command
 pub mod Views
 pub mod Definable
+pub mod Strays

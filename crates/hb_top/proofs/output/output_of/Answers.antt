@@ -4,7 +4,7 @@ use Rattle.hol_terms.specs.Definition.{signature_of}
 use Rattle.theory_text.specs.Command.{define_of}
 use Rattle.theory_text.specs.Views.{define_view}
 use Rattle.hb_top.specs.Answer.{in_force}
-use Rattle.hb_top.proofs.Checking.{both_ok, one_ok, no_bytes, some_bytes, no_define, a_define, over_base, definable_here}
+use Rattle.hb_top.proofs.Checking.{both_ok, no_bytes, some_bytes, no_define, a_define, over_base, definable_here}
 use Rattle.hb_top.proofs.Outputs.{check_limit, check_nothing, check_unbuilt, check_define}
 use Rattle.hb_top.proofs.output.output_of.Goals as goal
 
@@ -32,5 +32,5 @@ returns c =
     let some : c.args.input.now ≢ [] = some_bytes _ _ c.is_empty.ensures c.if-is_empty.false in
     let stated : define_of (signature_of (base in_force)) c.args.input.now ≡ Some (define_view c.in-Some.command) =
     over_base c.sig.result.now _ c.args.input.now _ c.sig.ensures c.in_ok-kernel.ensures (a_define c.in_ok-command.field-0 c.in-Some.command c.sig.result.now c.args.input.now c.in_ok-command.ensures.exact c.in-Some.is) in
-    one_ok c.output_of_define.result c.output_of_define.ensures
-    (λ o e. check_define _ (string_bytes o.text) o.refused (define_view c.in-Some.command) (omega arith) some stated (definable_here c.args.input.now (define_view c.in-Some.command) stated) e)
+    both_ok c.output_of_define.result c.output_of_define.ensures.output c.output_of_define.ensures.conservative
+    (λ o e k. check_define _ (string_bytes o.text) o.refused (define_view c.in-Some.command) (omega arith) some stated (definable_here c.args.input.now (define_view c.in-Some.command) stated) e k)

@@ -7,10 +7,11 @@ use Rattle.hol_terms.specs.TyVars.{own_const}
 use Rattle.hol_terms.specs.Typing.{tm_type}
 use Rattle.hb_top.specs.Answer.{base_line}
 use Rattle.hb_top.proofs.Checking.{section_pushed}
+use Rattle.hb_top.proofs.Conservative.{conservative_before}
 use Rattle.hb_top.proofs.output.section.Goals as goal
 
-pub returns : goal.returns
-returns c =
+pub returns-clause-text : goal.returns-clause-text
+returns-clause-text c =
     let name = c.args.name.now in
     let body = c.args.body.now in
     let p : Tm = eq_tm (own_const name (tm_type body)) body in
@@ -19,3 +20,6 @@ returns c =
     let concl : c.concl.result.now ≡ p = c.concl.ensures.value ∙ ap (λ th. th.sequent.concl) c.in_ok-th.ensures.ok.theorem in
     let fact : c.as_str-3.result.now ≡ theorem_line (name ++ codes ".def") p = c.as_str-3.ensures.value ∙ c.in_ok-fact.ensures ∙ (λ i. theorem_line (fact_name i) (concl i)) in
     section_pushed base_line name _ _ _ _ _ _ _ _ _ c.in_ok-text.ensures c.in_ok-push_str-2.ensures.bytes c.in_ok-push_line.ensures c.in_ok-push_line-2.ensures c.in_ok-push_line-3.ensures definition fact
+
+pub returns-clause-conservative : goal.returns-clause-conservative
+returns-clause-conservative c = conservative_before _ _ _ _ c.concl.ensures.derivable (ap (λ th. th.defs) c.in_ok-th.ensures.ok.theorem)

@@ -1,0 +1,5 @@
+pub mod Growth
+pub mod TypeSteps
+pub mod TermSteps
+pub mod OrderSteps
+pub mod RetypeSteps

@@ -1,0 +1,4 @@
+pub mod Types
+pub mod Terms
+pub mod Orders
+pub mod Retypings

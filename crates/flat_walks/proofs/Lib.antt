@@ -1,0 +1,4 @@
+pub mod Steps
+pub mod Lacking
+pub mod Memo
+pub mod Opening

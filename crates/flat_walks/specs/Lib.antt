@@ -1,0 +1,4 @@
+pub mod Walk
+pub mod Number
+pub mod Opens
+pub mod Lacks

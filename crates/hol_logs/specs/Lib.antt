@@ -1,0 +1,4 @@
+pub mod Step
+pub mod Line
+pub mod Position
+pub mod Log

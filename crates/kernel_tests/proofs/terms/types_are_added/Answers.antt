@@ -1,5 +1,0 @@
-use Rattle.std.proofs.Common.{refl}
-use Rattle.kernel_tests.proofs.terms.types_are_added.Goals as goal
-
-pub add_type-requires : goal.add_type-requires
-add_type-requires g c = rw c.in_ok-sig.ensures refl

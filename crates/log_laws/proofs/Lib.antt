@@ -1,0 +1,12 @@
+pub mod Lacking
+pub mod Lines
+pub mod DefinitionLines
+pub mod Fit
+pub mod StepsProve
+pub mod Causes
+pub mod Written
+pub mod Gives
+pub mod Reports
+pub mod Cuts
+pub mod OneReading
+pub mod OneOutcome

@@ -1,0 +1,4 @@
+//! Laws of proof logs: what a log reports is sound.
+#![tactic(auto)]
+
+pub mod laws;

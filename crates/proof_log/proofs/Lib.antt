@@ -1,0 +1,14 @@
+pub mod Numbers
+pub mod Good
+pub mod RuleLines
+pub mod GoodLines
+pub mod Fronts
+pub mod Places
+pub mod MarkLines
+pub mod Runs
+pub mod OneLine
+pub mod GoodLog
+pub mod Texts
+pub mod Marked
+pub mod Writing
+pub mod WholeLog

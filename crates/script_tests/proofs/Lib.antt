@@ -1,0 +1,3 @@
+pub mod Shelves
+pub mod GivenValues
+pub mod NewTypes

@@ -1,0 +1,75 @@
+//! Tables that take nothing, and sequents as text.
+
+ghost use Rattle.std.specs.Prelude.{◌≡◌, [], IfOk, OnOk};
+ghost use Rattle.hol_terms.specs.Base.{base};
+ghost use Rattle.hol_kernel.specs.State.{Has, Grows};
+ghost use Rattle.kernel_lines.specs.Bases.{HasBase};
+ghost use Rattle.script_core.specs.Shelves.{AreOn, ShelfHad};
+ghost use Rattle.script_core.specs.Ready.{Fits, Gives};
+ghost use Rattle.script_tests.specs.Closed.{nothing};
+
+use hol_kernel::{Kernel, Thm};
+use hol_text::print::push_term;
+use script_core::{Given, Shelf, run_table};
+use std::alloc::{AllocError, Global};
+use stmt_core::Fact;
+
+// The last theorem of a table that takes facts alone, which are on the shelf.
+pub(crate) fn run_closed(
+    alloc: Global,
+    k: &mut Kernel,
+    s: &Shelf,
+    facts: &[Fact],
+    table: &str,
+) -> Result<Thm, AllocError>
+    requires base { HasBase k.old.defs }
+    requires shelf { ShelfHad k.old s.now }
+    requires listed { AreOn s.now facts.now }
+    requires fits { Fits k.old.defs facts.now nothing table.now }
+    ensures exact { IfOk result (λ th. Gives k.old.defs facts.now nothing table.now th.sequent) }
+    ensures has { IfOk result (λ th. Has k.new th) }
+    ensures grows { Grows k.old k.new }
+{
+    let given = Given {
+        types: &[],
+        terms: &[],
+        thms: &[],
+    };
+    let th = run_table(alloc, k, s, facts, &given, table);
+    let Given {
+        types: _,
+        terms: _,
+        thms: _,
+    } = given;
+    th
+}
+
+// The last theorem of a table that takes nothing.
+pub(crate) fn derived(alloc: Global, k: &mut Kernel, table: &str) -> Result<Thm, AllocError>
+    requires base { k.old.defs ≡ base 10 }
+    requires fits { Fits (base 10) [] nothing table.now }
+    ensures { OnOk result (k.new.defs ≡ base 10) }
+{
+    let shelf = Shelf::new(alloc)?;
+    let th = run_closed(alloc, k, &shelf, &[], table)?;
+    Ok(th)
+}
+
+// The hypotheses, with commas between them, and the conclusion.
+pub(crate) fn sequent_text(alloc: Global, th: &Thm) -> Result<String, AllocError> {
+    let mut text = String::new(alloc);
+    for h in th.hyps() {
+        if !text.is_empty() {
+            text.push_str(", ")?;
+        }
+        push_term(&mut text, h, 0)?;
+    }
+    text.push_str(if text.is_empty() { "|- " } else { " |- " })?;
+    push_term(&mut text, th.concl(), 0)?;
+    Ok(text)
+}
+
+pub(crate) fn says(alloc: Global, th: &Thm, want: &str) -> Result<bool, AllocError> {
+    let text = sequent_text(alloc, th)?;
+    Ok(text.as_str() == want)
+}

@@ -1,0 +1,13 @@
+pub mod Steps
+pub mod Words
+pub mod NameWords
+pub mod TypesSound
+pub mod TypesComplete
+pub mod TypesAgree
+pub mod TermTexts
+pub mod TermsSound
+pub mod TermSteps
+pub mod TermLeaves
+pub mod TermSigns
+pub mod TermsComplete
+pub mod TermsAgree
