@@ -20,7 +20,7 @@ HEAD = """\
 //! at the end of its register; the theorems begin with the facts that the table takes.
 
 use crate::step::Step;
-use stmt_core::{Fact, LogicFact, ProductFact, SumFact};
+use library_facts::{Fact, LogicFact, ProductFact, SumFact};
 """ % WRITTEN_BY
 
 # The facts, as a list.
@@ -28,8 +28,8 @@ FACTS_HEAD = """\
 -- %s
 -- The facts of the first library.
 use Rattle.std.specs.Prelude.{List, [], ◌∷◌}
-use Rattle.stmt_core.specs.declared.facts.Fact.{Fact}
-use Rattle.stmt_core.specs.declared.facts.Fact.TheVariants.{Logic, Product, Sum}
+use Rattle.library_facts.specs.declared.facts.Fact.{Fact}
+use Rattle.library_facts.specs.declared.facts.Fact.TheVariants.{Logic, Product, Sum}
 VARIANTS
 -- in the order in which they are proved
 abbrev pub library_facts : List Fact
@@ -43,7 +43,7 @@ PROOFS_HEAD = """\
 use Rattle.std.proofs.Common.{◌≡◌, true, refl, List, [], ◌∷◌, codes}
 use Rattle.hol_terms.specs.Base.{base}
 use Rattle.hol_terms.specs.Text.{Text}
-use Rattle.stmt_core.specs.declared.facts.Fact.TheVariants.{Logic, Product, Sum}
+use Rattle.library_facts.specs.declared.facts.Fact.TheVariants.{Logic, Product, Sum}
 VARIANTS
 use Rattle.script_core.specs.Tables.{fact_sequent, table_sequent}
 use Rattle.th_base.specs.Closed.{nothing, Proves}
@@ -208,7 +208,7 @@ def variants(all_made):
     """The lines that import the names of the facts."""
     names = fact_names(all_made)
     return "".join(
-        "use Rattle.stmt_core.specs.declared.facts.%sFact.TheVariants.{%s}\n"
+        "use Rattle.library_facts.specs.declared.facts.%sFact.TheVariants.{%s}\n"
         % (group, ", ".join(name for of, name in names if of == group))
         for group in ("Logic", "Product", "Sum"))
 

@@ -5,7 +5,7 @@ import re
 
 TOP = pathlib.Path(__file__).resolve().parents[2]
 BASE_LINES = TOP / "crates/hol_terms/specs/BaseLines.antt"
-FACTS = TOP / "crates/stmt_core/src/facts.rt"
+FACTS = TOP / "crates/library_facts/src/facts.rt"
 
 
 def unescaped(text):

@@ -1,4 +1,4 @@
-//! Statements as the connectives and quantifiers make them, base definitions and facts, by their canonical texts.
+//! Statements as the connectives and quantifiers make them, and base definitions, by their canonical texts.
 
 ghost use Rattle.std.specs.Prelude.{◌≤◌, IfOk};
 ghost use Rattle.hol_terms.specs.Loose.{IsClosedAt};
@@ -10,8 +10,8 @@ use hol_terms::terms::Term;
 use hol_text::print::print_term;
 use std::alloc::{AllocError, Global};
 use std::test::Fail;
+use stmt_core::base_def;
 use stmt_core::connectives::{all, conj, disj, eq, ex, imp, neg};
-use stmt_core::{Fact, LogicFact, ProductFact, SumFact, base_def, fact_stmt};
 
 #[derive(Clone, Copy, Drop)]
 enum Sample {
@@ -232,35 +232,6 @@ fn base_text(alloc: Global, base: Base) -> Result<String, AllocError> {
 fn base_definitions_are_as_stated(rt: HostRuntime) -> Result<(), Fail> {
     for (base, want) in &BASES {
         let text = base_text(rt.alloc(), *base)?;
-        assert_eq!(rt; text.as_str(), *want);
-    }
-    Ok(())
-}
-
-static FACTS: [(Fact, &str); 3] = [
-    (
-        Fact::Logic(LogicFact::ExcludedMiddle),
-        "!x0:bool. x0 \\/ (~ x0)",
-    ),
-    (
-        Fact::Product(ProductFact::FstPair),
-        "!x0:'a. !x1:'b. fst{'a,'b} (pair{'a,'b} x0 x1) = x0",
-    ),
-    (
-        Fact::Sum(SumFact::InlNotInr),
-        "!x0:'a. !x1:'b. ~ (inl{'a,'b} x0 = inr{'b,'a} x1)",
-    ),
-];
-
-fn fact_text(alloc: Global, fact: Fact) -> Result<String, AllocError> {
-    let statement = fact_stmt(alloc, fact)?;
-    print_term(alloc, &statement)
-}
-
-#[test]
-fn facts_are_stated(rt: HostRuntime) -> Result<(), Fail> {
-    for (fact, want) in &FACTS {
-        let text = fact_text(rt.alloc(), *fact)?;
         assert_eq!(rt; text.as_str(), *want);
     }
     Ok(())

@@ -1,7 +1,7 @@
 -- The empty shelf.
 use Rattle.std.proofs.Common.{◌≡◌, sym, subst, []}
 use Rattle.std.proofs.lemmas.List.Elements.{All-nil}
-use Rattle.stmt_core.specs.declared.facts.Fact.{Fact}
+use Rattle.library_facts.specs.declared.facts.Fact.{Fact}
 use Rattle.hol_kernel.specs.State.{State, Theorem, Has}
 use Rattle.script_core.specs.Shelves.{Shelved, ShelfHad}
 

@@ -3,10 +3,10 @@
 use hol_kernel::{Kernel, Thm};
 use hol_text::print::print_term;
 use kernel_lines::start;
+use library_facts::{Fact, LogicFact, ProductFact, SumFact, fact_stmt};
 use script_core::Shelf;
 use std::alloc::{AllocError, Global};
 use std::test::Fail;
-use stmt_core::{Fact, LogicFact, ProductFact, SumFact, fact_stmt};
 use th_base::build;
 
 // The facts of the library.
@@ -88,6 +88,36 @@ fn each_fact_is_proved(rt: HostRuntime) -> Result<(), Fail> {
     assert_eq!(rt; kernel.steps().len(), 37_564);
     for fact in &FACTS {
         assert!(rt; is_proved(alloc, &shelf, *fact)?);
+    }
+    Ok(())
+}
+
+// Statements, as they are printed.
+static STATEMENTS: [(Fact, &str); 3] = [
+    (
+        Fact::Logic(LogicFact::ExcludedMiddle),
+        "!x0:bool. x0 \\/ (~ x0)",
+    ),
+    (
+        Fact::Product(ProductFact::FstPair),
+        "!x0:'a. !x1:'b. fst{'a,'b} (pair{'a,'b} x0 x1) = x0",
+    ),
+    (
+        Fact::Sum(SumFact::InlNotInr),
+        "!x0:'a. !x1:'b. ~ (inl{'a,'b} x0 = inr{'b,'a} x1)",
+    ),
+];
+
+fn fact_text(alloc: Global, fact: Fact) -> Result<String, AllocError> {
+    let statement = fact_stmt(alloc, fact)?;
+    print_term(alloc, &statement)
+}
+
+#[test]
+fn facts_are_stated(rt: HostRuntime) -> Result<(), Fail> {
+    for (fact, want) in &STATEMENTS {
+        let text = fact_text(rt.alloc(), *fact)?;
+        assert_eq!(rt; text.as_str(), *want);
     }
     Ok(())
 }

@@ -20,9 +20,9 @@ use Rattle.std.specs.Str.Lines.{lines}
 use Rattle.kernel_lines.specs.Lines.{on}
 use Rattle.kernel_lines.specs.Bases.{HasBase}
 use Rattle.script_core.specs.Shelves.{Shelved, IsOn, AreOn}
-use Rattle.stmt_core.specs.Facts.{fact_text}
-use Rattle.stmt_core.proofs.BaseSignature.{base_signature, same_signature}
-use Rattle.stmt_core.specs.declared.facts.Fact.{Fact}
+use Rattle.library_facts.specs.Facts.{fact_text}
+use Rattle.library_facts.proofs.BaseSignature.{base_signature, same_signature}
+use Rattle.library_facts.specs.declared.facts.Fact.{Fact}
 use Rattle.script_core.specs.Steps.{Registers}
 use Rattle.script_core.specs.Tables.{read, fact_sequent, facts_put, run_whole, table_sequent}
 use Rattle.script_core.specs.Ready.{given_values, IsGiven, Fits, Gives}

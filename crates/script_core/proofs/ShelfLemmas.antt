@@ -5,7 +5,7 @@ use Rattle.std.proofs.lemmas.List.Elements.{All-push, All-contains, All-head, Al
 use Rattle.std.proofs.Math.Seq.{drop-cons}
 use Rattle.hol_kernel.specs.State.{State, Theorem, Has}
 use Rattle.hol_terms.specs.Sequent.{Sequent}
-use Rattle.stmt_core.specs.declared.facts.Fact.{Fact}
+use Rattle.library_facts.specs.declared.facts.Fact.{Fact}
 use Rattle.script_core.specs.Shelves.{Shelved, IsFact, IsOn, AreOn, ShelfHad, AreStated, IsLastPut}
 use Rattle.script_core.specs.Tables.{facts_put}
 

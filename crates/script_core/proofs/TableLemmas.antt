@@ -14,7 +14,7 @@ use Rattle.hol_terms.specs.Sequent.{Sequent}
 use Rattle.hol_terms.specs.Text.{Text}
 use Rattle.std.specs.Str.Lines.{lines}
 use Rattle.hol_terms.specs.Reading.{reading_of_type, reading_of_term}
-use Rattle.stmt_core.specs.declared.facts.Fact.{Fact}
+use Rattle.library_facts.specs.declared.facts.Fact.{Fact}
 use Rattle.hol_text.specs.Over.{GivesTypes}
 use Rattle.text_laws.proofs.Given.{gives_types}
 use Rattle.hol_kernel.specs.State.{State, Theorem, Has, Grows}

@@ -7,9 +7,9 @@ use Rattle.hol_terms.specs.Logic.{const_T, const_conj}
 use Rattle.script_core.specs.Steps.{Registers}
 use Rattle.script_core.specs.Tables.{run, table_sequent, fact_sequent}
 use Rattle.std.specs.Str.Lines.{lines}
-use Rattle.stmt_core.proofs.BaseSignature.{base_signature}
-use Rattle.stmt_core.specs.declared.facts.Fact.TheVariants.{Logic}
-use Rattle.stmt_core.specs.declared.facts.LogicFact.TheVariants.{Truth}
+use Rattle.library_facts.proofs.BaseSignature.{base_signature}
+use Rattle.library_facts.specs.declared.facts.Fact.TheVariants.{Logic}
+use Rattle.library_facts.specs.declared.facts.LogicFact.TheVariants.{Truth}
 use Rattle.script_core.proofs.Closed.{closed_table, fact_reads_as}
 
 abbrev none : Registers

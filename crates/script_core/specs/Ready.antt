@@ -11,7 +11,7 @@ use Rattle.hol_terms.specs.Sequent.{Sequent}
 use Rattle.hol_terms.specs.Text.{Text}
 use Rattle.hol_kernel.specs.State.{State}
 use Rattle.kernel_lines.specs.Ready.{behind, sequents, AllOver, AllHad}
-use Rattle.stmt_core.specs.declared.facts.Fact.{Fact}
+use Rattle.library_facts.specs.declared.facts.Fact.{Fact}
 use Rattle.script_core.specs.Steps.{Registers, types_put, terms_put}
 use Rattle.script_core.specs.Tables.{run, facts_put, table_sequent}
 use Rattle.script_core.specs.declared.entries.Entries.{Entries}

@@ -1,6 +1,6 @@
 -- What is on a shelf: facts and their theorems, in the order of putting.
 use Rattle.std.specs.Prelude.{◌≡◌, ◌≢◌, List, [], ◌∷◌, ◌++◌, All, Contains, Some}
-use Rattle.stmt_core.specs.declared.facts.Fact.{Fact}
+use Rattle.library_facts.specs.declared.facts.Fact.{Fact}
 use Rattle.hol_terms.specs.Sequent.{Sequent}
 use Rattle.hol_kernel.specs.State.{State, Theorem, Has}
 use Rattle.script_core.specs.Tables.{fact_sequent}

@@ -9,8 +9,8 @@ use Rattle.hol_terms.specs.Sequent.{Sequent, seq}
 use Rattle.hol_terms.specs.Reading.{Reading, reads, no_syntax, unknown, ill_typed, reading_of_type, reading_of_term}
 use Rattle.hol_terms.specs.Text.{Text}
 use Rattle.kernel_lines.specs.Lines.{on, last}
-use Rattle.stmt_core.specs.Facts.{fact_text}
-use Rattle.stmt_core.specs.declared.facts.Fact.{Fact}
+use Rattle.library_facts.specs.Facts.{fact_text}
+use Rattle.library_facts.specs.declared.facts.Fact.{Fact}
 use Rattle.script_core.specs.Words.{kind_named, first_word, after_word, words}
 use Rattle.script_core.specs.Steps.{Registers, inferred}
 use Rattle.script_core.specs.declared.rule.LineKind.{LineKind}

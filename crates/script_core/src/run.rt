@@ -23,8 +23,8 @@ use hol_kernel::{Kernel, Thm};
 use hol_terms::terms::Term;
 use hol_terms::types::HolType;
 use hol_text::read::{ReadError, read_term, read_type};
+use library_facts::Fact;
 use std::alloc::{AllocError, Global};
-use stmt_core::Fact;
 
 /// What a table is given beside facts: the first types, the first terms, and the theorems behind those of the facts.
 pub struct Given<'a> {

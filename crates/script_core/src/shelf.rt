@@ -4,9 +4,9 @@ ghost use Rattle.std.specs.Prelude.{◌≡◌, ◌≢◌, ◌++◌, ◌∷◌, [
 ghost use Rattle.script_core.specs.Shelves.{IsFact, IsLastPut};
 
 use hol_kernel::Thm;
+use library_facts::Fact;
 use std::alloc::{AllocError, Global};
 use std::marker::Model;
-use stmt_core::Fact;
 
 /// Proved facts. The theorem of each is `|- p`, where p is the fact's statement.
 #[derive(Drop)]
@@ -16,7 +16,7 @@ pub struct Shelf {
 
 impl Model for Shelf {
     ghost use Rattle.std.specs.Coded.{coded×, coded_list};
-    ghost use Rattle.stmt_core.specs.contracts.facts.Fact as fact;
+    ghost use Rattle.library_facts.specs.contracts.facts.Fact as fact;
     ghost use Rattle.hol_kernel.specs.State.{theorem_code};
     ghost use Rattle.script_core.specs.Shelves.{Shelved, AreStated};
 

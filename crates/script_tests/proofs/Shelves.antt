@@ -9,10 +9,10 @@ use Rattle.hol_terms.specs.Logic.{const_T}
 use Rattle.hol_terms.specs.Text.{Text}
 use Rattle.hol_kernel.specs.State.{State, Theorem, Has}
 use Rattle.kernel_lines.specs.Lines.{on}
-use Rattle.stmt_core.proofs.BaseSignature.{base_signature}
-use Rattle.stmt_core.specs.declared.facts.Fact.{Fact}
-use Rattle.stmt_core.specs.declared.facts.Fact.TheVariants.{Logic}
-use Rattle.stmt_core.specs.declared.facts.LogicFact.TheVariants.{Truth}
+use Rattle.library_facts.proofs.BaseSignature.{base_signature}
+use Rattle.library_facts.specs.declared.facts.Fact.{Fact}
+use Rattle.library_facts.specs.declared.facts.Fact.TheVariants.{Logic}
+use Rattle.library_facts.specs.declared.facts.LogicFact.TheVariants.{Truth}
 use Rattle.script_core.specs.Shelves.{Shelved, IsFact, IsOn, ShelfHad}
 use Rattle.script_core.specs.Tables.{fact_sequent, facts_put, table_sequent}
 use Rattle.script_core.specs.Ready.{Fits, Gives}

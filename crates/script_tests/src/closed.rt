@@ -10,9 +10,9 @@ ghost use Rattle.script_tests.specs.Closed.{nothing};
 
 use hol_kernel::{Kernel, Thm};
 use hol_text::print::push_term;
+use library_facts::Fact;
 use script_core::{Given, Shelf, run_table};
 use std::alloc::{AllocError, Global};
-use stmt_core::Fact;
 
 // The last theorem of a table that takes facts alone, which are on the shelf.
 pub(crate) fn run_closed(

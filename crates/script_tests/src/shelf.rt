@@ -8,10 +8,10 @@ ghost use Rattle.script_core.specs.Shelves.{IsFact, IsOn, ShelfHad};
 use crate::closed::{run_closed, says};
 use hol_kernel::{Kernel, Thm};
 use kernel_lines::start;
+use library_facts::{Fact, LogicFact};
 use script_core::Shelf;
 use std::alloc::{AllocError, Global};
 use std::test::Fail;
-use stmt_core::{Fact, LogicFact};
 
 const TRUTH: &str = "\
     term T\n\

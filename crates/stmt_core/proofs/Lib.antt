@@ -1,4 +1,2 @@
 pub mod BaseSteps
-pub mod BaseSignature
-pub mod FactsRead
 pub mod FormulaLemmas

@@ -4,8 +4,6 @@
 mod base;
 pub mod connectives;
 mod defined;
-mod facts;
 mod tables;
 
 pub use base::base_def;
-pub use facts::{Fact, LogicFact, ProductFact, SumFact, fact_stmt};

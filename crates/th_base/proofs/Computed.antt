@@ -25,7 +25,7 @@ use Rattle.hol_terms.proofs.Same.{same-is}
 use Rattle.hol_kernel.specs.Fault.{type_fault, predicate_of, shows_inhabited}
 use Rattle.hol_kernel.specs.declared.kernel.Unfit.TheVariants as unfit
 use Rattle.hol_kernel.specs.Said.{is_const_def}
-use Rattle.stmt_core.specs.declared.facts.Fact.{Fact}
+use Rattle.library_facts.specs.declared.facts.Fact.{Fact}
 use Rattle.script_core.specs.Words.{first_word, after_word, words, number, kind_named}
 use Rattle.script_core.specs.Conversions.{most_steps}
 use Rattle.script_core.specs.Tables.{fact_sequent, table_sequent}

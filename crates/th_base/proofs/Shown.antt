@@ -5,7 +5,7 @@ use Rattle.hol_terms.specs.Definition.{Definition}
 use Rattle.hol_terms.specs.Sequent.{Sequent}
 use Rattle.hol_terms.specs.Text.{Text}
 use Rattle.hol_kernel.specs.State.{State, Theorem, Has, Grows}
-use Rattle.stmt_core.specs.declared.facts.Fact.{Fact}
+use Rattle.library_facts.specs.declared.facts.Fact.{Fact}
 use Rattle.script_core.specs.Shelves.{Shelved, IsFact, IsOn, AreOn, ShelfHad}
 use Rattle.script_core.specs.Ready.{Fits, Gives}
 use Rattle.th_base.specs.Closed.{nothing, Proves}

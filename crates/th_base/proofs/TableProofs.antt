@@ -3,10 +3,10 @@
 use Rattle.std.proofs.Common.{◌≡◌, true, refl, List, [], ◌∷◌, codes}
 use Rattle.hol_terms.specs.Base.{base}
 use Rattle.hol_terms.specs.Text.{Text}
-use Rattle.stmt_core.specs.declared.facts.Fact.TheVariants.{Logic, Product, Sum}
-use Rattle.stmt_core.specs.declared.facts.LogicFact.TheVariants.{Truth, Extensionality, ExcludedMiddle, Contradiction, DoubleNegation, NotDisj, NotConj, ImpAsDisj, NotImp, NotEx, NotAll, NotAsEquation, FunctionsDiffer, TruthValuesDiffer, SomeHolds, Choice, ChoiceOn, UniqueChoice, Identity, IfTrue, IfFalse}
-use Rattle.stmt_core.specs.declared.facts.ProductFact.TheVariants.{UnitAbsRep, UnitRepAbs, UnitEqual, ProdAbsRep, ProdRepAbs, PairRep, PairInjective, PairExhausts, FstPair, SndPair, PairOfComponents}
-use Rattle.stmt_core.specs.declared.facts.SumFact.TheVariants.{SumAbsRep, SumRepAbs, InlRep, InrRep, InlInjective, InrInjective, InlNotInr, InrNotInl, InlOrInr, CaseInl, CaseInr}
+use Rattle.library_facts.specs.declared.facts.Fact.TheVariants.{Logic, Product, Sum}
+use Rattle.library_facts.specs.declared.facts.LogicFact.TheVariants.{Truth, Extensionality, ExcludedMiddle, Contradiction, DoubleNegation, NotDisj, NotConj, ImpAsDisj, NotImp, NotEx, NotAll, NotAsEquation, FunctionsDiffer, TruthValuesDiffer, SomeHolds, Choice, ChoiceOn, UniqueChoice, Identity, IfTrue, IfFalse}
+use Rattle.library_facts.specs.declared.facts.ProductFact.TheVariants.{UnitAbsRep, UnitRepAbs, UnitEqual, ProdAbsRep, ProdRepAbs, PairRep, PairInjective, PairExhausts, FstPair, SndPair, PairOfComponents}
+use Rattle.library_facts.specs.declared.facts.SumFact.TheVariants.{SumAbsRep, SumRepAbs, InlRep, InrRep, InlInjective, InrInjective, InlNotInr, InrNotInl, InlOrInr, CaseInl, CaseInr}
 use Rattle.script_core.specs.Tables.{fact_sequent, table_sequent}
 use Rattle.th_base.specs.Closed.{nothing, Proves}
 use Rattle.th_base.specs.Building.{IsConstantAt, IsTypeAt}

@@ -7,7 +7,7 @@ use Rattle.hol_terms.specs.Base.{base, base_definitions}
 use Rattle.hol_terms.specs.Definition.{Definition}
 use Rattle.hol_terms.specs.Text.{Text}
 use Rattle.hol_kernel.specs.State.{State, Theorem, Has, Grows}
-use Rattle.stmt_core.specs.declared.facts.Fact.{Fact}
+use Rattle.library_facts.specs.declared.facts.Fact.{Fact}
 use Rattle.kernel_lines.specs.Bases.{HasBase}
 use Rattle.script_core.specs.Shelves.{Shelved, ShelfHad, IsOn, AreOn}
 use Rattle.th_base.specs.Closed.{Proves}

@@ -7,7 +7,7 @@ use Rattle.hol_terms.specs.Sequent.{Sequent}
 use Rattle.hol_terms.specs.Text.{Text}
 use Rattle.hol_kernel.specs.Said.{is_const_def}
 use Rattle.hol_kernel.specs.State.{State, Theorem, Has}
-use Rattle.stmt_core.specs.declared.facts.Fact.{Fact}
+use Rattle.library_facts.specs.declared.facts.Fact.{Fact}
 use Rattle.script_core.specs.Shelves.{Shelved, ShelfHad, AreOn}
 use Rattle.th_base.specs.Closed.{Proves, ShowsElement}
 use Rattle.th_base.specs.declared.step.Step.{Step}

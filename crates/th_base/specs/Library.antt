@@ -1,11 +1,11 @@
 -- Written by `python3 tools/library.py write` from the scripts of tools/library/.
 -- The facts of the first library.
 use Rattle.std.specs.Prelude.{List, [], ◌∷◌}
-use Rattle.stmt_core.specs.declared.facts.Fact.{Fact}
-use Rattle.stmt_core.specs.declared.facts.Fact.TheVariants.{Logic, Product, Sum}
-use Rattle.stmt_core.specs.declared.facts.LogicFact.TheVariants.{Truth, Extensionality, ExcludedMiddle, Contradiction, DoubleNegation, NotDisj, NotConj, ImpAsDisj, NotImp, NotEx, NotAll, NotAsEquation, FunctionsDiffer, TruthValuesDiffer, SomeHolds, Choice, ChoiceOn, UniqueChoice, Identity, IfTrue, IfFalse}
-use Rattle.stmt_core.specs.declared.facts.ProductFact.TheVariants.{UnitAbsRep, UnitRepAbs, UnitEqual, ProdAbsRep, ProdRepAbs, PairRep, PairInjective, PairExhausts, FstPair, SndPair, PairOfComponents}
-use Rattle.stmt_core.specs.declared.facts.SumFact.TheVariants.{SumAbsRep, SumRepAbs, InlRep, InrRep, InlInjective, InrInjective, InlNotInr, InrNotInl, InlOrInr, CaseInl, CaseInr}
+use Rattle.library_facts.specs.declared.facts.Fact.{Fact}
+use Rattle.library_facts.specs.declared.facts.Fact.TheVariants.{Logic, Product, Sum}
+use Rattle.library_facts.specs.declared.facts.LogicFact.TheVariants.{Truth, Extensionality, ExcludedMiddle, Contradiction, DoubleNegation, NotDisj, NotConj, ImpAsDisj, NotImp, NotEx, NotAll, NotAsEquation, FunctionsDiffer, TruthValuesDiffer, SomeHolds, Choice, ChoiceOn, UniqueChoice, Identity, IfTrue, IfFalse}
+use Rattle.library_facts.specs.declared.facts.ProductFact.TheVariants.{UnitAbsRep, UnitRepAbs, UnitEqual, ProdAbsRep, ProdRepAbs, PairRep, PairInjective, PairExhausts, FstPair, SndPair, PairOfComponents}
+use Rattle.library_facts.specs.declared.facts.SumFact.TheVariants.{SumAbsRep, SumRepAbs, InlRep, InrRep, InlInjective, InrInjective, InlNotInr, InrNotInl, InlOrInr, CaseInl, CaseInr}
 
 -- in the order in which they are proved
 abbrev pub library_facts : List Fact

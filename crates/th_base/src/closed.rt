@@ -9,9 +9,9 @@ ghost use Rattle.th_base.specs.Closed.{nothing, Proves};
 ghost use Rattle.th_base.specs.Building.{Extends};
 
 use hol_kernel::{Kernel, Thm};
+use library_facts::Fact;
 use script_core::{Given, Shelf, run_table};
 use std::alloc::{AllocError, Global};
-use stmt_core::Fact;
 
 /// The last theorem of a table that takes facts alone, which are on the shelf.
 pub(crate) fn run_closed(

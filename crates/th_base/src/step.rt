@@ -1,6 +1,6 @@
 //! The steps in which the library is built.
 
-use stmt_core::Fact;
+use library_facts::Fact;
 
 /// A step.
 pub(crate) enum Step {

@@ -3,7 +3,7 @@
 //! at the end of its register; the theorems begin with the facts that the table takes.
 
 use crate::step::Step;
-use stmt_core::{Fact, LogicFact, ProductFact, SumFact};
+use library_facts::{Fact, LogicFact, ProductFact, SumFact};
 
 // The truth value T holds.
 const TRUTH: &str = "\

@@ -3,13 +3,13 @@
 ghost use Rattle.std.specs.Prelude.{◌≡◌, ◌+◌, ◌<◌, IfOk, OnOk};
 ghost use Rattle.hol_terms.specs.Definition.{signature_of};
 ghost use Rattle.hol_terms.specs.Base.{base, base_definitions};
-ghost use Rattle.stmt_core.specs.Facts.{States, fact_text, logic_text, product_text, sum_text};
+ghost use Rattle.library_facts.specs.Facts.{States, fact_text, logic_text, product_text, sum_text};
 
-use crate::base::base_def;
 use hol_terms::sig::Sig;
 use hol_terms::terms::Term;
 use hol_text::read::{ReadError, read_term};
 use std::alloc::{AllocError, Global};
+use stmt_core::base_def;
 
 /// A fact of the library, by what it is on. Facts that are added later change none of these.
 #[derive(Clone, Copy, Debug, PartialEq, Eq, Drop)]
@@ -137,7 +137,7 @@ pub fn fact_stmt(alloc: Global, fact: Fact) -> Result<Term, AllocError>
 }
 
 /// The signature of the base definitions.
-#[tactic(auto, using(crate::proofs::BaseSteps::base_whole))]
+#[tactic(auto, using(stmt_core::proofs::BaseSteps::base_whole))]
 fn base_signature(alloc: Global) -> Result<Sig, AllocError>
     ensures { IfOk result (λ sig. sig ≡ signature_of base_definitions) }
 {

@@ -11,16 +11,16 @@ use Rattle.hol_terms.specs.Base.{base_definitions}
 use Rattle.hol_terms.specs.Tokens.{tokens}
 use Rattle.hol_terms.specs.Meaning.{applied, function, constant, fitted, apply, equation, connective, negation, quantified}
 use Rattle.hol_terms.specs.Reading.{types_at, dtype_at, type_at, typed_at, braces_at, atom_at, atoms_at, application_at, bound_at, body_at, binder_at, term_at, reading_of_term, Reading, reads, no_syntax, unknown, ill_typed}
-use Rattle.stmt_core.specs.declared.facts.Fact.{Fact}
-use Rattle.stmt_core.specs.declared.facts.Fact.TheVariants.{Logic, Product, Sum}
-use Rattle.stmt_core.specs.declared.facts.LogicFact.{LogicFact}
-use Rattle.stmt_core.specs.declared.facts.LogicFact.TheVariants.{Truth, Extensionality, ExcludedMiddle, Contradiction, DoubleNegation, NotConj, NotDisj, NotImp, ImpAsDisj, NotEx, NotAll, NotAsEquation, FunctionsDiffer, TruthValuesDiffer, SomeHolds, Choice, ChoiceOn, UniqueChoice, Identity, IfTrue, IfFalse}
-use Rattle.stmt_core.specs.declared.facts.ProductFact.{ProductFact}
-use Rattle.stmt_core.specs.declared.facts.ProductFact.TheVariants.{UnitAbsRep, UnitRepAbs, UnitEqual, ProdAbsRep, ProdRepAbs, PairRep, PairInjective, PairExhausts, FstPair, SndPair, PairOfComponents}
-use Rattle.stmt_core.specs.declared.facts.SumFact.{SumFact}
-use Rattle.stmt_core.specs.declared.facts.SumFact.TheVariants.{SumAbsRep, SumRepAbs, InlRep, InrRep, InlInjective, InrInjective, InlNotInr, InlOrInr, CaseInl, CaseInr, InrNotInl}
-use Rattle.stmt_core.specs.Facts.{logic_text, product_text, sum_text, fact_text}
-use Rattle.stmt_core.proofs.BaseSignature.{base_signature, same_signature}
+use Rattle.library_facts.specs.declared.facts.Fact.{Fact}
+use Rattle.library_facts.specs.declared.facts.Fact.TheVariants.{Logic, Product, Sum}
+use Rattle.library_facts.specs.declared.facts.LogicFact.{LogicFact}
+use Rattle.library_facts.specs.declared.facts.LogicFact.TheVariants.{Truth, Extensionality, ExcludedMiddle, Contradiction, DoubleNegation, NotConj, NotDisj, NotImp, ImpAsDisj, NotEx, NotAll, NotAsEquation, FunctionsDiffer, TruthValuesDiffer, SomeHolds, Choice, ChoiceOn, UniqueChoice, Identity, IfTrue, IfFalse}
+use Rattle.library_facts.specs.declared.facts.ProductFact.{ProductFact}
+use Rattle.library_facts.specs.declared.facts.ProductFact.TheVariants.{UnitAbsRep, UnitRepAbs, UnitEqual, ProdAbsRep, ProdRepAbs, PairRep, PairInjective, PairExhausts, FstPair, SndPair, PairOfComponents}
+use Rattle.library_facts.specs.declared.facts.SumFact.{SumFact}
+use Rattle.library_facts.specs.declared.facts.SumFact.TheVariants.{SumAbsRep, SumRepAbs, InlRep, InrRep, InlInjective, InrInjective, InlNotInr, InlOrInr, CaseInl, CaseInr, InrNotInl}
+use Rattle.library_facts.specs.Facts.{logic_text, product_text, sum_text, fact_text}
+use Rattle.library_facts.proofs.BaseSignature.{base_signature, same_signature}
 
 abbrev pub is_read : Reading Tm → Bool
 is_read (reads t) = true

@@ -5,14 +5,14 @@ use Rattle.hol_terms.specs.Definition.{signature_of}
 use Rattle.hol_terms.specs.Base.{base_definitions}
 use Rattle.hol_terms.specs.Text.{Text}
 use Rattle.hol_terms.specs.Reading.{reads, reading_of_term}
-use Rattle.stmt_core.specs.declared.facts.Fact.{Fact}
-use Rattle.stmt_core.specs.declared.facts.Fact.TheVariants.{Logic, Product, Sum}
-use Rattle.stmt_core.specs.declared.facts.LogicFact.{LogicFact}
-use Rattle.stmt_core.specs.declared.facts.LogicFact.TheVariants.{Truth, Extensionality, ExcludedMiddle, Contradiction, DoubleNegation, NotConj, NotDisj, NotImp, ImpAsDisj, NotEx, NotAll, NotAsEquation, FunctionsDiffer, TruthValuesDiffer, SomeHolds, Choice, ChoiceOn, UniqueChoice, Identity, IfTrue, IfFalse}
-use Rattle.stmt_core.specs.declared.facts.ProductFact.{ProductFact}
-use Rattle.stmt_core.specs.declared.facts.ProductFact.TheVariants.{UnitAbsRep, UnitRepAbs, UnitEqual, ProdAbsRep, ProdRepAbs, PairRep, PairInjective, PairExhausts, FstPair, SndPair, PairOfComponents}
-use Rattle.stmt_core.specs.declared.facts.SumFact.{SumFact}
-use Rattle.stmt_core.specs.declared.facts.SumFact.TheVariants.{SumAbsRep, SumRepAbs, InlRep, InrRep, InlInjective, InrInjective, InlNotInr, InlOrInr, CaseInl, CaseInr, InrNotInl}
+use Rattle.library_facts.specs.declared.facts.Fact.{Fact}
+use Rattle.library_facts.specs.declared.facts.Fact.TheVariants.{Logic, Product, Sum}
+use Rattle.library_facts.specs.declared.facts.LogicFact.{LogicFact}
+use Rattle.library_facts.specs.declared.facts.LogicFact.TheVariants.{Truth, Extensionality, ExcludedMiddle, Contradiction, DoubleNegation, NotConj, NotDisj, NotImp, ImpAsDisj, NotEx, NotAll, NotAsEquation, FunctionsDiffer, TruthValuesDiffer, SomeHolds, Choice, ChoiceOn, UniqueChoice, Identity, IfTrue, IfFalse}
+use Rattle.library_facts.specs.declared.facts.ProductFact.{ProductFact}
+use Rattle.library_facts.specs.declared.facts.ProductFact.TheVariants.{UnitAbsRep, UnitRepAbs, UnitEqual, ProdAbsRep, ProdRepAbs, PairRep, PairInjective, PairExhausts, FstPair, SndPair, PairOfComponents}
+use Rattle.library_facts.specs.declared.facts.SumFact.{SumFact}
+use Rattle.library_facts.specs.declared.facts.SumFact.TheVariants.{SumAbsRep, SumRepAbs, InlRep, InrRep, InlInjective, InrInjective, InlNotInr, InlOrInr, CaseInl, CaseInr, InrNotInl}
 
 -- facts on logic, choice, the identity and the conditional
 abbrev pub logic_text : LogicFact → Text

@@ -1,0 +1,2 @@
+pub mod BaseSignature
+pub mod FactsRead
