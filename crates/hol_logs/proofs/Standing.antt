@@ -1,10 +1,11 @@
 -- Which base definitions stand at a position behind good lines.
-use Rattle.std.proofs.Common.{◌≡◌, ℕ, Bool, true, false, cond, not, ◌&&◌, ◌||◌, ◌==◌, List, [], ◌∷◌, ◌++◌, Option, Some, None, length, refl, sym, ap, ◌∙◌, subst, append_assoc, append-nil, slice_get}
+use Rattle.std.proofs.Common.{◌≡◌, ◌⊎◌, inl, inr, ◌≤◌, drop, ℕ, Bool, true, false, cond, not, ◌&&◌, ◌||◌, ◌==◌, List, [], ◌∷◌, ◌++◌, Option, Some, None, length, refl, sym, ap, ◌∙◌, subst, append_assoc, append-nil, slice_get}
 use Rattle.std.specs.Prelude.{option_to_list}
 use Rattle.std.specs.List.{list_any}
 use Rattle.std.proofs.lemmas.Bool.{and_parts, not-false}
 use Rattle.hol_terms.specs.Definition.{Definition}
-use Rattle.hol_terms.specs.Base.{base}
+use Rattle.std.proofs.lemmas.List.{take-append-drop, take-take}
+use Rattle.hol_terms.specs.Base.{base, base_definitions}
 use Rattle.hol_terms.specs.Proves.{IsPrefix}
 use Rattle.hol_logs.specs.Step.{same_definition, are_base}
 use Rattle.hol_logs.specs.Line.{LogLine, line_first, line_step, line_const, line_type, line_base, line_section, line_name, line_end, line_stop}
@@ -55,3 +56,25 @@ stands_after n p (line_section t) c h = stays n p.is_based p.defs h
 stands_after n p (line_name x i t) c h = stays n p.is_based p.defs h
 stands_after n p (line_end k) c h = stays n p.is_based p.defs h
 stands_after n p (line_stop k test name place) c h = stays n p.is_based p.defs h
+
+-- ---- the ten definitions of the connectives and quantifiers
+
+prefixes : {A : Type 0} (xs ys more rest : List A) → xs ++ more ≡ ys ++ rest → ((m : List A) × (ys ≡ xs ++ m)) ⊎ ((m : List A) × (xs ≡ ys ++ m))
+prefixes [] ys more rest e = inl (ys, refl)
+prefixes (x ∷ xs) [] more rest e = inr (x ∷ xs, refl)
+prefixes (x ∷ xs) (y ∷ ys) more rest e =
+    let heads : x ≡ y = cc in
+    let tails : xs ++ more ≡ ys ++ rest = cc in
+    elim (prefixes xs ys more rest tails) [
+      | inl p ↦ inl (p.0, λ i. sym heads i ∷ p.1 i)
+      | inr p ↦ inr (p.0, λ i. heads i ∷ p.1 i)
+    ]
+
+-- they begin those in force
+ten : (n : ℕ) → 10 ≤ n → base n ≡ base 10 ++ drop 10 (base n)
+ten n h = sym (take-append-drop 10 (base n)) ∙ ap (λ es. es ++ drop 10 (base n)) (take-take 10 n base_definitions h)
+
+-- the definitions at a position begin with them, or begin them
+pub about_ten : (n : ℕ) (b : Bool) (ds : List Definition) → 10 ≤ n → Stands n b ds → IsPrefix (base 10) ds ⊎ IsPrefix ds (base 10)
+about_ten n true ds k h = inl (drop 10 (base n) ++ h.0, h.1 ∙ ap (λ es. es ++ h.0) (ten n k) ∙ append_assoc (base 10) (drop 10 (base n)) h.0)
+about_ten n false ds k h = elim (prefixes ds (base 10) h.0 (drop 10 (base n)) (sym h.1 ∙ ten n k)) [ inl p ↦ inr p | inr p ↦ inl p ]

@@ -1,10 +1,10 @@
 -- Of a log's lines those that are good lead to one position and print one report, and the first bad one has one first cause.
-use Rattle.std.proofs.Common.{◌≡◌, inl, inr, ◌⊎◌, ℕ, suc, ◌+◌, ◌<◌, ◌≤◌, ◌^◌, Bool, true, false, cond, ◌==◌, List, [], ◌∷◌, ◌++◌, Option, Some, None, length, drop, refl, sym, ap, ◌∙◌, subst, append_assoc, append-nil, arith}
+use Rattle.std.proofs.Common.{◌≡◌, inl, inr, ◌⊎◌, ℕ, suc, ◌+◌, ◌<◌, ◌≤◌, ◌^◌, Bool, true, false, cond, ◌==◌, List, [], ◌∷◌, ◌++◌, Option, Some, None, length, refl, sym, ap, ◌∙◌, subst, append_assoc, append-nil, arith}
 use Rattle.std.proofs.lemmas.Bool.{not-true, both_ways}
-use Rattle.std.proofs.lemmas.List.{take-append-drop, take-take, length-append}
+use Rattle.std.proofs.lemmas.List.{length-append}
 use Rattle.hol_terms.specs.Definition.{Definition, signature_of}
 use Rattle.hol_terms.specs.Signature.{Signature}
-use Rattle.hol_terms.specs.Base.{base, base_definitions}
+use Rattle.hol_terms.specs.Base.{base}
 use Rattle.hol_terms.specs.Proves.{AreConservative}
 use Rattle.hol_terms.specs.ReadsBack.{ReadsBack}
 use Rattle.hol_terms.specs.Text.{Text}
@@ -15,24 +15,13 @@ use Rattle.text_laws.proofs.Named.{reads_back}
 use Rattle.hol_logs.specs.Line.{LogLine}
 use Rattle.hol_logs.specs.Position.{LogPosition, after, report_of, Why, first_cause}
 use Rattle.hol_logs.specs.Log.{unended_after, unended, line_unless_empty, log_lines, unlines, HasForm, IsGood, IsBad, no_form, a_cause, Reads, no_line, one_more, is_ended, IsGoodLog, good_log, IsBadLog, bad_line, cut_off}
-use Rattle.hol_logs.proofs.Standing.{Stands, stands_after}
+use Rattle.hol_logs.proofs.Standing.{Stands, stands_after, about_ten}
 use Rattle.hol_logs.proofs.Causes.{no_causes}
 use Rattle.log_laws.proofs.Cuts.{AreShort}
 use Rattle.log_laws.proofs.OneReading.{line_by_text}
 use Rattle.log_laws.proofs.Reports.{reads_conservative}
 
 -- ---- lists
-
-prefixes : {A : Type 0} (xs ys more rest : List A) → xs ++ more ≡ ys ++ rest → ((m : List A) × (ys ≡ xs ++ m)) ⊎ ((m : List A) × (xs ≡ ys ++ m))
-prefixes [] ys more rest e = inl (ys, refl)
-prefixes (x ∷ xs) [] more rest e = inr (x ∷ xs, refl)
-prefixes (x ∷ xs) (y ∷ ys) more rest e =
-    let heads : x ≡ y = cc in
-    let tails : xs ++ more ≡ ys ++ rest = cc in
-    elim (prefixes xs ys more rest tails) [
-      | inl p ↦ inl (p.0, λ i. sym heads i ∷ p.1 i)
-      | inr p ↦ inr (p.0, λ i. heads i ∷ p.1 i)
-    ]
 
 no_snoc : {A : Type 0} (xs : List A) (x : A) → [] ≡ xs ++ x ∷ [] → ⊥
 no_snoc [] x e = cc
@@ -89,16 +78,11 @@ fewer s t x h = record {
   usual = λ c g u e f. h.usual c g u (x.consts c g e) f;
 }
 
--- the ten definitions of the connectives and quantifiers begin those in force
-ten : (n : ℕ) → 10 ≤ n → base n ≡ base 10 ++ drop 10 (base n)
-ten n h = sym (take-append-drop 10 (base n)) ∙ ap (λ es. es ++ drop 10 (base n)) (take-take 10 n base_definitions h)
-
 position_reads_back : (n : ℕ) (b : Bool) (ds : List Definition) → 10 ≤ n → AreConservative ds → Stands n b ds → ReadsBack (signature_of ds)
-position_reads_back n true ds k c h = reads_back ds c (drop 10 (base n) ++ h.0, h.1 ∙ ap (λ es. es ++ h.0) (ten n k) ∙ append_assoc (base 10) (drop 10 (base n)) h.0)
-position_reads_back n false ds k c h =
-    elim (prefixes ds (base 10) h.0 (drop 10 (base n)) (sym h.1 ∙ ten n k)) [
-      | inl p ↦ fewer (signature_of ds) (signature_of (base 10)) (subst (λ es. Extends (signature_of ds) (signature_of es)) (sym p.1) (extends ds p.0)) (reads_back (base 10) base_conservative ([], sym (append-nil (base 10))))
-      | inr p ↦ reads_back ds c p
+position_reads_back n b ds k c h =
+    elim (about_ten n b ds k h) [
+      | inl p ↦ reads_back ds c p
+      | inr p ↦ fewer (signature_of ds) (signature_of (base 10)) (subst (λ es. Extends (signature_of ds) (signature_of es)) (sym p.1) (extends ds p.0)) (reads_back (base 10) base_conservative ([], sym (append-nil (base 10))))
     ]
 
 reads_reads_back : (n : ℕ) (texts : List Text) (p : LogPosition) (said : List Text) → 10 ≤ n → Reads n texts p said → ReadsBack (signature_of p.defs)
