@@ -1,0 +1,5 @@
+pub mod Sequents
+pub mod Equations
+pub mod Places
+pub mod Redexes
+pub mod Said
