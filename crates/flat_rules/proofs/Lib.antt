@@ -1,0 +1,5 @@
+pub mod Numbers
+pub mod Placing
+pub mod PairSteps
+pub mod Sides
+pub mod Abstracting

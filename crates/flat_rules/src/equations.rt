@@ -67,9 +67,13 @@ fn is_equality(tables: &Tables, term: TermId, at: TypeId) -> bool
     match tables.term_view(term) {
         TermView::Const(name, args, ty) => match args {
             [only] => {
-                tables.name_text(name) == "eq"
-                    && tables.same_type(*only, at)
-                    && is_equality_type(tables, ty, at)
+                if tables.name_text(name) != "eq" {
+                    return false;
+                }
+                if !tables.same_type(*only, at) {
+                    return false;
+                }
+                is_equality_type(tables, ty, at)
             }
             _ => false,
         },
