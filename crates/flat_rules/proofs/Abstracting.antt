@@ -14,13 +14,14 @@ use Rattle.flat_walks.proofs.Steps.{added_has, added_is}
 use Rattle.flat_instances.specs.Types.{IsTypeNumber}
 use Rattle.flat_instances.specs.TablesGrow.{TablesGrow}
 use Rattle.flat_instances.proofs.TablesGrow.{tables_grow_further, tables_grow_terms}
+use Rattle.flat_rules.proofs.Numbers.{number_later}
 
 -- the numbers that an abstraction is made of, before it is added
-pub record IsAbstracting (s u : PlainTables) (v n body : TermId) (bound ty : TypeId) : Type 0 where
+pub record IsAbstracting (s u : PlainTables) (v n b : TermId) (a y : TypeId) : Type 0 where
   pub grows : TablesGrow s u
-  pub body : term_of u body ≡ tm_bind 0 (var_of (term_of s v)) (term_of s n)
-  pub bound : type_of u bound ≡ (var_of (term_of s v)).ty
-  pub typed : type_of u ty ≡ fun_ty (type_of u bound) (tm_type (term_of u body))
+  pub body : term_of u b ≡ tm_bind 0 (var_of (term_of s v)) (term_of s n)
+  pub bound : type_of u a ≡ (var_of (term_of s v)).ty
+  pub typed : type_of u y ≡ fun_ty (type_of u a) (tm_type (term_of u b))
 
 pub abstracting : (s t u : PlainTables) (v n body : TermId) (bound range ty : TypeId) → IsVariable s v → HasTerm s n → HasType s bound → type_of s bound ≡ tm_type (term_of s v) → HasType s range → type_of s range ≡ tm_type (term_of s n) → TablesGrow s t
     → IsTypeNumber t ty (fun_ty (type_of s bound) (type_of s range)) → Grows t u → IsBound t u v 0 n body → IsAbstracting s u v n body bound ty
@@ -43,3 +44,11 @@ abstracting s t u v n body bound range ty hv hn hb eb hr er g k h b = record { g
 
 pub abstraction_made : (s u w : PlainTables) (v n body r : TermId) (bound ty : TypeId) → IsAbstracting s u v n body bound ty → IsTermAdded u w r (tm_abs (type_of u bound) (term_of u body)) → IsNumber w r (lambda (var_of (term_of s v)) (term_of s n))
 abstraction_made s u w v n body r bound ty i a = record { has = added_has u w r _ a; tree = added_is u w r _ a ∙ (λ j. tm_abs (i.bound j) (i.body j)) }
+
+-- both sides of an equation, abstracted one after the other
+pub both_abstracted : (s t u : PlainTables) (v l r x y : TermId) → HasTerm s v → HasTerm s r → TablesGrow s t → IsNumber t x (lambda (var_of (term_of s v)) (term_of s l)) → TablesGrow t u → IsNumber u y (lambda (var_of (term_of t v)) (term_of t r))
+    → IsNumber u x (lambda (var_of (term_of s v)) (term_of s l)) × IsNumber u y (lambda (var_of (term_of s v)) (term_of s r))
+both_abstracted s t u v l r x y hv hr g n h m = (number_later t u x _ n h, record { has = m.has; tree = m.tree ∙ (λ j. lambda (var_of (g.same_term v hv j)) (g.same_term r hr j)) })
+
+pub abstracted_typed : (v : FreeVar) (l r : Tm) → tm_type r ≡ tm_type l → tm_type (lambda v r) ≡ tm_type (lambda v l)
+abstracted_typed v l r e = ap (λ t. fun_ty v.ty t) (tm_type-bind 0 v r ∙ e ∙ sym (tm_type-bind 0 v l))

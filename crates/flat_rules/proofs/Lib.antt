@@ -3,3 +3,4 @@ pub mod Placing
 pub mod PairSteps
 pub mod Sides
 pub mod Abstracting
+pub mod RuleSteps

@@ -170,3 +170,7 @@ pub types_step : (t : PlainTables) (ps : List (TermId × TermId)) (i : ℕ) (d :
     → (r ≡ true → type_of t x ≡ type_of t y) × (type_of t x ≡ type_of t y → r ≡ true) → keeps_types (term_pairs t (drop i ps)) ≡ both r (keeps_types (term_pairs t (drop (i + 1) ps)))
 types_step t ps i d x y r h hp e f k =
     types_here t ps i d h ∙ ap (λ b. both b (keeps_types (term_pairs t (drop (i + 1) ps)))) (same_ty_as (tm_type (term_of t (get_or ps i d).1)) (var_of (term_of t (get_or ps i d).0)).ty (type_of t x) (type_of t y) r e (f ∙ ap tm_type (variable_pair_has t ps i d hp h).0.1) k)
+
+pub same_ty_yes : (a b : Ty) → same_ty a b ≡ true → a ≡ b
+unfolding same_ty
+same_ty_yes a b e = ty_cmp-same a b (is_eq-same (ty_cmp a b) e)

@@ -266,7 +266,10 @@ pub fn inst_type(
     ensures grows { TablesGrow tables.old tables.new }
     ensures ok { IfOk result (λ r. IsAnswer tables.new (inst_type_rule (type_pairs tables.old pairs.now) (sequent_of tables.old a.now)) r) }
 {
-    if pairs.is_empty() || !are_distinct_names(tables, pairs) {
+    if pairs.is_empty() {
+        return Ok(None);
+    }
+    if !are_distinct_names(tables, pairs) {
         return Ok(None);
     }
     let hyps = type_instances(tables, alloc, pairs, &a.hyps)?;
@@ -288,7 +291,13 @@ pub fn inst(
     ensures grows { TablesGrow tables.old tables.new }
     ensures ok { IfOk result (λ r. IsAnswer tables.new (inst_rule (term_pairs tables.old pairs.now) (sequent_of tables.old a.now)) r) }
 {
-    if pairs.is_empty() || !are_distinct_variables(tables, pairs) || !have_types(tables, pairs) {
+    if pairs.is_empty() {
+        return Ok(None);
+    }
+    if !are_distinct_variables(tables, pairs) {
+        return Ok(None);
+    }
+    if !have_types(tables, pairs) {
         return Ok(None);
     }
     let hyps = instances(tables, alloc, pairs, &a.hyps)?;
