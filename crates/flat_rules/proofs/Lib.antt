@@ -4,3 +4,4 @@ pub mod PairSteps
 pub mod Sides
 pub mod Abstracting
 pub mod RuleSteps
+pub mod VariableSteps

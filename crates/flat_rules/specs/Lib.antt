@@ -3,3 +3,4 @@ pub mod Equations
 pub mod Places
 pub mod Redexes
 pub mod Said
+pub mod Bridges

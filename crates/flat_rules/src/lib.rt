@@ -8,3 +8,4 @@ pub mod hypotheses;
 mod pairs;
 pub mod rules;
 pub mod sequent;
+pub mod variables;
