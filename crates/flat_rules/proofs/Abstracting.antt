@@ -1,5 +1,5 @@
 -- Abstractions over a variable.
-use Rattle.std.proofs.Common.{◌≡◌, refl, ap, sym, ◌∙◌}
+use Rattle.std.proofs.Common.{◌≡◌, ap, sym, ◌∙◌}
 use Rattle.hol_terms.specs.Tm.{Tm, FreeVar, tm_abs}
 use Rattle.hol_terms.specs.Typing.{tm_type, fun_ty}
 use Rattle.hol_terms.specs.Binding.{tm_bind}

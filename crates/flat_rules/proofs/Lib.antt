@@ -4,4 +4,5 @@ pub mod PairSteps
 pub mod Sides
 pub mod Abstracting
 pub mod RuleSteps
+pub mod DefinitionSteps
 pub mod VariableSteps

@@ -6,10 +6,10 @@ use Rattle.std.proofs.lemmas.Slice.Eq.{bytes_eq-Decides}
 use Rattle.std.specs.Ordering.{is_eq}
 use Rattle.std.specs.List.{list_any}
 use Rattle.hol_terms.specs.Ty.{Ty}
-use Rattle.hol_terms.specs.Tm.{Tm, FreeVar, tm_free}
+use Rattle.hol_terms.specs.Tm.{Tm, tm_free}
 use Rattle.hol_terms.specs.Typing.{tm_type}
-use Rattle.hol_terms.specs.Binding.{var_eq, VarSubst}
-use Rattle.hol_terms.specs.Subst.{TySubst, ty_cmp}
+use Rattle.hol_terms.specs.Binding.{var_eq}
+use Rattle.hol_terms.specs.Subst.{ty_cmp}
 use Rattle.hol_terms.specs.Rules.{both, no, same_ty, are_distinct_types, are_distinct_vars, keeps_types}
 use Rattle.hol_terms.proofs.Order.{var_eq-same, is_eq-same, ty_cmp-same}
 use Rattle.hol_terms.proofs.Same.{same_ty-from}
@@ -17,7 +17,7 @@ use Rattle.hol_terms.proofs.Opened.{var_self}
 use Rattle.flat_terms.specs.declared.nodes.NameId.{NameId}
 use Rattle.flat_terms.specs.declared.nodes.TypeId.{TypeId}
 use Rattle.flat_terms.specs.declared.nodes.TermId.{TermId}
-use Rattle.flat_terms.specs.Plain.{PlainTables, HasName, HasType, HasTerm, name_of, name_at, type_of, term_of}
+use Rattle.flat_terms.specs.Plain.{PlainTables, HasName, HasTerm, name_of, name_at, type_of, term_of}
 use Rattle.flat_terms.specs.Trees.{Distinct}
 use Rattle.flat_walks.specs.Walk.{IsVariable, var_of}
 use Rattle.flat_instances.specs.Types.{HasTypePairs, type_pairs}

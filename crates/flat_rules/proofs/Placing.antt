@@ -1,5 +1,5 @@
 -- Hypothesis lists over the tables, a hypothesis at a time.
-use Rattle.std.proofs.Common.{◌≡◌, ℕ, suc, ◌+◌, ◌<◌, ◌≤◌, Bool, true, false, List, [], ◌∷◌, ◌++◌, length, get_or, take, drop, map, Some, None, refl, ap, sym, subst, ◌∙◌, arith, add-one, drop-cons, drop_of_length-le, take-suc, append_assoc}
+use Rattle.std.proofs.Common.{◌≡◌, ℕ, ◌+◌, ◌<◌, ◌≤◌, Bool, true, false, List, [], ◌∷◌, ◌++◌, length, get_or, take, drop, Some, refl, ap, sym, subst, ◌∙◌, arith, add-one, drop-cons, drop_of_length-le, take-suc, append_assoc}
 use Rattle.std.proofs.lemmas.List.{map-append, take-map, drop-map, length-map, take-append-drop, append-nil}
 use Rattle.std.specs.List.{insert}
 use Rattle.std.specs.declared.cmp.Ordering.TheVariants.{Less, Equal, Greater}
@@ -36,7 +36,6 @@ place_equal t n ns i d h p e = p ∙ ap (λ l. terms_of t (take i ns) ++ l) here
   where
     here : insert_hyp (term_of t n) (terms_of t (drop i ns)) ≡ terms_of t (drop i ns)
     here = rw (drop-cons ns i d h, e) refl
-
 
 pub place_greater : (t : PlainTables) (n : TermId) (ns : List TermId) (i : ℕ) (d : TermId) → i < length ns → IsPlacing t n ns i → tm_cmp (term_of t n) (term_of t (get_or ns i d)) ≡ Greater → IsPlacing t n ns (i + 1)
 place_greater t n ns i d h p e = p ∙ ap (λ l. terms_of t (take i ns) ++ l) here ∙ sym (append_assoc (terms_of t (take i ns)) (term_of t (get_or ns i d) ∷ []) _) ∙ ap (λ l. l ++ insert_hyp (term_of t n) (terms_of t (drop (i + 1) ns))) front

@@ -1,23 +1,21 @@
 -- What the rules give of sequents of a known form, and answers that stand for it.
 use Rattle.std.proofs.Common.{◌≡◌, Bool, true, false, List, [], ◌∷◌, length, ◌==◌, map, Option, Some, None, is_some, not, refl, ap, sym, subst, ◌∙◌, true≢false}
-use Rattle.hol_terms.specs.Ty.{Ty}
-use Rattle.hol_terms.specs.Tm.{Tm, FreeVar, tm_free, tm_comb, tm_abs}
+use Rattle.hol_terms.specs.Tm.{Tm, FreeVar, tm_comb, tm_abs}
 use Rattle.hol_terms.specs.Typing.{tm_type, fun_ty, range_ty}
 use Rattle.hol_terms.specs.Takes.{Takes}
 use Rattle.hol_terms.specs.Loose.{HasAt}
-use Rattle.hol_terms.specs.Signature.{Signature, IsOver}
-use Rattle.hol_terms.specs.Definition.{bool_ty}
+use Rattle.hol_terms.specs.Signature.{IsOver}
 use Rattle.hol_terms.specs.Subst.{TySubst}
 use Rattle.hol_terms.specs.Binding.{VarSubst, tm_inst, tm_ty_subst}
-use Rattle.hol_terms.specs.Sequent.{Sequent, seq, eq_tm, union, left_of, argument}
-use Rattle.hol_terms.specs.Rules.{same, same_ty, fits, if_so, both, no, is_equation, free_in_none, lambda, some_pair, are_distinct_types, are_distinct_vars, keeps_types, trans_rule, comb_rule, abs_rule, assume_rule, eq_mp_rule, inst_type_rule, inst_rule}
+use Rattle.hol_terms.specs.Sequent.{Sequent, seq, eq_tm, union}
+use Rattle.hol_terms.specs.Rules.{same_ty, fits, if_so, both, is_equation, free_in_none, lambda, some_pair, are_distinct_types, are_distinct_vars, keeps_types, trans_rule, comb_rule, abs_rule, eq_mp_rule, inst_type_rule, inst_rule}
 use Rattle.hol_terms.proofs.Same.{same_refl, same_ty-from}
 use Rattle.hol_terms.proofs.Bound.{IsOver-HasAt}
 use Rattle.flat_terms.specs.declared.nodes.NameId.{NameId}
 use Rattle.flat_terms.specs.declared.nodes.TypeId.{TypeId}
 use Rattle.flat_terms.specs.declared.nodes.TermId.{TermId}
 use Rattle.flat_terms.specs.Plain.{PlainTables, HasTerm, type_of, term_of, IsTermAdded}
-use Rattle.flat_walks.specs.Walk.{IsVariable, var_of, Grows}
+use Rattle.flat_walks.specs.Walk.{var_of}
 use Rattle.flat_walks.specs.Number.{IsNumber}
 use Rattle.flat_walks.proofs.Memo.{number_added}
 use Rattle.flat_walks.proofs.Opening.{takes_kept}
@@ -28,7 +26,7 @@ use Rattle.flat_instances.proofs.TablesGrow.{tables_grow_by_term}
 use Rattle.flat_rules.specs.declared.sequent.FlatSequent.{FlatSequent}
 use Rattle.flat_rules.specs.declared.rules.Redex.{Redex}
 use Rattle.flat_rules.specs.Sequents.{HasTerms, terms_of, AreNumbers, sequent_of, HasSequent, HasVariablePairs, IsWellTyped}
-use Rattle.flat_rules.specs.Equations.{AreSides, IsRange}
+use Rattle.flat_rules.specs.Equations.{IsRange}
 use Rattle.flat_rules.specs.Redexes.{AreRedexParts}
 use Rattle.flat_rules.proofs.Numbers.{has_later, terms_later, number_later, number_moved}
 use Rattle.flat_rules.proofs.Placing.{same_no, same_yes}
@@ -113,9 +111,10 @@ others_take s u f g x y hg hy h k eg ey = takes_kept (term_of s f) (term_of s x)
 pub applied : (s u w : PlainTables) (f g x y l r : TermId) → HasTerm s g → HasTerm s y → IsTermAdded s u l (tm_comb (term_of s f) (term_of s x)) → IsTermAdded u w r (tm_comb (term_of u g) (term_of u y))
     → IsNumber w l (tm_comb (term_of s f) (term_of s x)) × IsNumber w r (tm_comb (term_of s g) (term_of s y))
 applied s u w f g x y l r hg hy a b =
-    let step = tables_grow_by_term s u l (tm_comb (term_of s f) (term_of s x)) a in
-    (number_later u w l (tm_comb (term_of s f) (term_of s x)) (number_added s u l (tm_comb (term_of s f) (term_of s x)) a) (tables_grow_by_term u w r (tm_comb (term_of u g) (term_of u y)) b),
-      number_moved w r (tm_comb (term_of u g) (term_of u y)) (tm_comb (term_of s g) (term_of s y)) (number_added u w r (tm_comb (term_of u g) (term_of u y)) b) (λ j. tm_comb (step.same_term g hg j) (step.same_term y hy j)))
+    let step = tables_grow_by_term s u l (tm_comb (term_of s f) (term_of s x)) a in (
+      number_later u w l (tm_comb (term_of s f) (term_of s x)) (number_added s u l (tm_comb (term_of s f) (term_of s x)) a) (tables_grow_by_term u w r (tm_comb (term_of u g) (term_of u y)) b),
+      number_moved w r (tm_comb (term_of u g) (term_of u y)) (tm_comb (term_of s g) (term_of s y)) (number_added u w r (tm_comb (term_of u g) (term_of u y)) b) (λ j. tm_comb (step.same_term g hg j) (step.same_term y hy j)),
+    )
 
 -- pairs that pass the tests
 both_true : (a b : Bool) → both a b ≡ true → (a ≡ true) × (b ≡ true)

@@ -1,12 +1,12 @@
 -- Equations and the types that they need.
-use Rattle.std.proofs.Common.{◌≡◌, ◌≤◌, ◌<◌, Bool, true, false, List, [], ◌∷◌, length, get_or, codes, ◌==◌, Result, Ok, Err, ℕ, suc, not, refl, ap, sym, subst, ◌∙◌, arith, true≢false}
+use Rattle.std.proofs.Common.{◌≡◌, ◌≤◌, ◌<◌, Bool, true, false, List, [], ◌∷◌, length, get_or, codes, ◌==◌, Result, Ok, Err, suc, not, refl, ap, sym, subst, ◌∙◌, arith, true≢false}
 use Rattle.std.proofs.lemmas.Option.{get_or_from_slice_get}
 use Rattle.std.specs.Result.{IfOk, OnErr}
 use Rattle.std.specs.declared.alloc.AllocError.{AllocError}
 use Rattle.hol_terms.specs.Name.{Name}
-use Rattle.hol_terms.specs.Ty.{Ty, ty_app, Tys, no_tys, more_tys, tys}
-use Rattle.hol_terms.specs.Tm.{Tm, tm_index, tm_free, tm_const, tm_comb, tm_abs}
-use Rattle.hol_terms.specs.Typing.{tm_type, fun_ty, range_ty}
+use Rattle.hol_terms.specs.Ty.{Ty, ty_app, no_tys, tys}
+use Rattle.hol_terms.specs.Tm.{Tm, tm_index, tm_const, tm_comb}
+use Rattle.hol_terms.specs.Typing.{tm_type, fun_ty}
 use Rattle.hol_terms.specs.Takes.{Takes}
 use Rattle.hol_terms.specs.Definition.{bool_ty, eq_ty}
 use Rattle.hol_terms.specs.Sequent.{eq_tm, left_of, argument}
@@ -25,7 +25,6 @@ use Rattle.flat_instances.specs.TablesGrow.{TablesGrow}
 use Rattle.flat_instances.proofs.TablesGrow.{tables_grow_same, tables_grow_by_term, tables_grow_by_name}
 use Rattle.flat_rules.specs.Equations.{eq_const}
 use Rattle.flat_rules.proofs.Placing.{same_no}
-use Rattle.flat_rules.proofs.Numbers.{number_later}
 
 pub bool_when : (t : PlainTables) (n : Name) (args : List TypeId) (y : Ty) → y ≡ ty_app n (tys (types_of t args)) → n ≡ codes "bool" → (args ≡ [] → y ≡ bool_ty) × (y ≡ bool_ty → args ≡ [])
 bool_when t n args y e k = (λ h. e ∙ (λ j. ty_app (k j) (tys (types_of t (h j)))), λ h. none args (sym e ∙ h))

@@ -1,7 +1,6 @@
 -- Applications of an abstraction to a variable.
 use Rattle.std.specs.Prelude.{◌≡◌, false, Option, Some, None}
 use Rattle.hol_terms.specs.Tm.{Tm, tm_comb, tm_abs}
-use Rattle.hol_terms.specs.Typing.{tm_type}
 use Rattle.hol_terms.specs.Sequent.{argument}
 use Rattle.hol_terms.specs.Rules.{both, function, is_abstraction, is_variable}
 use Rattle.flat_terms.specs.Plain.{PlainTables, HasTerm, term_of}

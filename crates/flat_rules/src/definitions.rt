@@ -159,12 +159,7 @@ fn make_new_type(
 }
 
 /// The number of a name with an end. After want of memory the tables are as before.
-fn dotted(
-    tables: &mut Tables,
-    alloc: Global,
-    name: NameId,
-    end: &str,
-) -> Result<NameId, AllocError>
+fn dotted(tables: &mut Tables, alloc: Global, name: NameId, end: &str) -> Result<NameId, AllocError>
     requires { HasName tables.old name }
     ensures grows { TablesGrow tables.old tables.new }
     ensures ok { IfOk result (λ n. IsNameNumber tables.new n (name_of tables.old name ++ end.now)) }

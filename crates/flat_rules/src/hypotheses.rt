@@ -38,11 +38,7 @@ fn place(tables: &Tables, term: TermId, hyps: &[TermId]) -> Option<usize>
 }
 
 /// Puts a term at its place among hypotheses, if it is not there.
-pub fn insert_term(
-    tables: &Tables,
-    hyps: &mut Vec<TermId>,
-    term: TermId,
-) -> Result<(), AllocError>
+pub fn insert_term(tables: &Tables, hyps: &mut Vec<TermId>, term: TermId) -> Result<(), AllocError>
     requires hyps { HasTerms tables.now hyps.old.items }
     requires term { HasTerm tables.now term }
     ensures { OnOk result (AreNumbers tables.now hyps.new.items (insert_hyp (term_of tables.now term) (terms_of tables.now hyps.old.items))) }

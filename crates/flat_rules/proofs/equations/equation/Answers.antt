@@ -14,4 +14,4 @@ returns-in_default-term_view c = no_function (term_of c.args.tables.now c.args.t
 pub returns-else-is_equality : goal.returns-else-is_equality
 returns-else-is_equality c =
     no_equality (term_of c.args.tables.now c.args.term) (term_of c.args.tables.now c.in-Comb-term_view.equality) (term_of c.args.tables.now c.in-Comb-term_view.left) (term_of c.args.tables.now c.in-Comb.right) (c.in-Comb.ensures.3 ∙ ap (λ f. tm_comb f (term_of c.args.tables.now c.in-Comb.right)) c.in-Comb-term_view.ensures.3)
-        (λ e. true≢false (sym (c.is_equality.ensures.1 (e ∙ sym (ap eq_const c.type_of.ensures.ty))) ∙ c.if-is_equality.false))
+    (λ e. true≢false (sym (c.is_equality.ensures.1 (e ∙ sym (ap eq_const c.type_of.ensures.ty))) ∙ c.if-is_equality.false))

@@ -26,7 +26,7 @@ loop-hyp-preserved c =
     let step = tables_grow_terms c.loop-hyp.tables c.instance.new.tables c.instance.ensures.grows in
     let hyp = get_or c.args.hyps.now c.loop-hyp.hyp-index (record { 0 = 0 }) in
     let same : tm_inst (term_pairs c.loop-hyp.tables c.args.pairs.now) (term_of c.loop-hyp.tables hyp) ≡ tm_inst (term_pairs c.args.tables.now c.args.pairs.now) (term_of c.args.tables.now hyp) =
-        λ j. tm_inst (term_pairs_same c.args.tables.now c.loop-hyp.tables c.args.pairs.now c.loop-hyp.invariant.grows c.requires.pairs j) (c.loop-hyp.invariant.grows.same_term hyp (has_at c.args.tables.now c.args.hyps.now c.loop-hyp.hyp-index _ c.requires.hyps c.loop-hyp-test.true) j) in
+    λ j. tm_inst (term_pairs_same c.args.tables.now c.loop-hyp.tables c.args.pairs.now c.loop-hyp.invariant.grows c.requires.pairs j) (c.loop-hyp.invariant.grows.same_term hyp (has_at c.args.tables.now c.args.hyps.now c.loop-hyp.hyp-index _ c.requires.hyps c.loop-hyp-test.true) j) in
     record {
       grows = tables_grow_further _ _ _ c.loop-hyp.invariant.grows step;
       done = subst (λ (l : List TermId). AreNumbers c.instance.new.tables l (map (tm_inst (term_pairs c.args.tables.now c.args.pairs.now)) (terms_of c.args.tables.now (take (c.loop-hyp.hyp-index + 1) c.args.hyps.now)))) (sym c.in_ok-push.ensures.items)

@@ -1,6 +1,6 @@
-use Rattle.std.proofs.Common.{sym, ◌∙◌}
+use Rattle.std.proofs.Common.{sym}
 use Rattle.flat_rules.proofs.Numbers.{has_at}
-use Rattle.flat_rules.proofs.Placing.{place_less, place_equal, place_greater, place_end}
+use Rattle.flat_rules.proofs.Placing.{place_less, place_equal}
 use Rattle.flat_rules.proofs.hypotheses.place.Goals as goal
 
 pub compare-requires-clause-b : goal.compare-requires-clause-b

@@ -1,7 +1,6 @@
 use Rattle.std.proofs.Common.{List, ◌+◌, sym, subst, ◌∙◌}
 use Rattle.flat_terms.specs.declared.nodes.NameId.{NameId}
 use Rattle.flat_terms.specs.declared.nodes.TypeId.{TypeId}
-use Rattle.flat_terms.specs.declared.nodes.TermId.{TermId}
 use Rattle.flat_instances.specs.Types.{HasTypePairs}
 use Rattle.flat_rules.proofs.PairSteps.{type_pair_has, type_pairs_from, rest_of, distinct_names_not, distinct_names_more, distinct_names_over}
 use Rattle.flat_rules.proofs.pairs.are_distinct_names.Goals as goal

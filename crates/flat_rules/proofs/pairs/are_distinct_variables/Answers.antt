@@ -1,6 +1,4 @@
 use Rattle.std.proofs.Common.{List, ◌+◌, sym, subst, ◌∙◌}
-use Rattle.flat_terms.specs.declared.nodes.NameId.{NameId}
-use Rattle.flat_terms.specs.declared.nodes.TypeId.{TypeId}
 use Rattle.flat_terms.specs.declared.nodes.TermId.{TermId}
 use Rattle.flat_rules.specs.Sequents.{HasVariablePairs}
 use Rattle.flat_rules.proofs.PairSteps.{variable_pair_has, variable_pairs_from, rest_of, distinct_variables_not, distinct_variables_more, distinct_variables_over}

@@ -18,4 +18,4 @@ pub returns : goal.returns
 returns c =
     let p = term_of c.args.tables.now c.args.term in
     answered c.args.tables.now c.args.tables.now (record { hyps = c.in_ok-hyps.hyps; concl = c.args.term }) _ (p ∷ []) p (tables_grow_itself c.args.tables.now) (copied_numbers c.args.tables.now c.in_ok-hyps.hyps.items (c.args.term ∷ []) (c.requires, tt) c.in_ok-hyps.ensures) (numbered c.args.tables.now c.args.term c.requires)
-        (ap (λ b. if_so b (seq (p ∷ []) p)) (same_ty_as (tm_type p) bool_ty (type_of c.args.tables.now c.type_of.result) bool_ty c.is_bool.result c.type_of.ensures.ty refl c.is_bool.ensures ∙ c.if-not-is_bool.false))
+    (ap (λ b. if_so b (seq (p ∷ []) p)) (same_ty_as (tm_type p) bool_ty (type_of c.args.tables.now c.type_of.result) bool_ty c.is_bool.result c.type_of.ensures.ty refl c.is_bool.ensures ∙ c.if-not-is_bool.false))

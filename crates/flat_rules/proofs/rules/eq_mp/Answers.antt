@@ -13,5 +13,5 @@ returns-then-not-same_term c =
 pub returns : goal.returns
 returns c =
     answered c.args.tables.now c.args.tables.now (record { hyps = c.in_ok-hyps.hyps; concl = c.in-Some.right }) _ (union (terms_of c.args.tables.now c.args.a.now.hyps.items) (terms_of c.args.tables.now c.args.b.now.hyps.items)) (term_of c.args.tables.now c.in-Some.right) (tables_grow_itself c.args.tables.now)
-        (united c.args.tables.now _ _ _ _ _ c.deref.ensures.value c.deref-2.ensures.value c.in_ok-hyps.ensures) (numbered c.args.tables.now c.in-Some.right c.in-Some.ensures.has_right)
-        (eq_mp_gives (terms_of c.args.tables.now c.args.a.now.hyps.items) (terms_of c.args.tables.now c.args.b.now.hyps.items) (term_of c.args.tables.now c.args.a.now.concl) (term_of c.args.tables.now c.args.b.now.concl) (term_of c.args.tables.now c.in-Some.left) (term_of c.args.tables.now c.in-Some.right) c.in-Some.ensures.tree (c.same_term.ensures.0 c.if-not-same_term.false))
+    (united c.args.tables.now _ _ _ _ _ c.deref.ensures.value c.deref-2.ensures.value c.in_ok-hyps.ensures) (numbered c.args.tables.now c.in-Some.right c.in-Some.ensures.has_right)
+    (eq_mp_gives (terms_of c.args.tables.now c.args.a.now.hyps.items) (terms_of c.args.tables.now c.args.b.now.hyps.items) (term_of c.args.tables.now c.args.a.now.concl) (term_of c.args.tables.now c.args.b.now.concl) (term_of c.args.tables.now c.in-Some.left) (term_of c.args.tables.now c.in-Some.right) c.in-Some.ensures.tree (c.same_term.ensures.0 c.if-not-same_term.false))

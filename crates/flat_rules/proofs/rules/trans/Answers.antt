@@ -12,5 +12,5 @@ returns-then-not-same_term-clause-ok c =
 pub returns-clause-ok : goal.returns-clause-ok
 returns-clause-ok c =
     answered c.args.tables.now c.make_equation.new.tables (record { hyps = c.in_ok-hyps.hyps; concl = c.in_ok-concl.concl }) _ (union (terms_of c.args.tables.now c.args.a.now.hyps.items) (terms_of c.args.tables.now c.args.b.now.hyps.items)) (eq_tm (term_of c.args.tables.now c.in-Some.left) (term_of c.args.tables.now c.in-Some-equation.right)) c.make_equation.ensures.grows
-        (united c.args.tables.now _ _ _ _ _ c.deref.ensures.value c.deref-2.ensures.value c.in_ok-hyps.ensures) c.in_ok-concl.ensures.ok
-        (trans_gives (terms_of c.args.tables.now c.args.a.now.hyps.items) (terms_of c.args.tables.now c.args.b.now.hyps.items) (term_of c.args.tables.now c.args.a.now.concl) (term_of c.args.tables.now c.args.b.now.concl) (term_of c.args.tables.now c.in-Some.left) (term_of c.args.tables.now c.in-Some.middle) (term_of c.args.tables.now c.in-Some-equation.same) (term_of c.args.tables.now c.in-Some-equation.right) c.in-Some.ensures.tree c.in-Some-equation.ensures.tree (c.same_term.ensures.0 c.if-not-same_term.false))
+    (united c.args.tables.now _ _ _ _ _ c.deref.ensures.value c.deref-2.ensures.value c.in_ok-hyps.ensures) c.in_ok-concl.ensures.ok
+    (trans_gives (terms_of c.args.tables.now c.args.a.now.hyps.items) (terms_of c.args.tables.now c.args.b.now.hyps.items) (term_of c.args.tables.now c.args.a.now.concl) (term_of c.args.tables.now c.args.b.now.concl) (term_of c.args.tables.now c.in-Some.left) (term_of c.args.tables.now c.in-Some.middle) (term_of c.args.tables.now c.in-Some-equation.same) (term_of c.args.tables.now c.in-Some-equation.right) c.in-Some.ensures.tree c.in-Some-equation.ensures.tree (c.same_term.ensures.0 c.if-not-same_term.false))
