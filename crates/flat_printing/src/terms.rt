@@ -31,6 +31,7 @@ fn push_bound(out: &mut String, depth: usize) -> Result<(), AllocError>
 
 /// Writes a term that `depth` binders enclose.
 #[cycle(terms)]
+#[tactic(auto, using(hol_text::proofs::PrintLemmas::term_lemmas))]
 fn push_below(
     tables: &Tables,
     out: &mut String,
@@ -60,6 +61,7 @@ fn push_below(
 
 /// Writes the variable of a binder, its type and the body.
 #[cycle(terms)]
+#[tactic(auto, using(hol_text::proofs::PrintLemmas::term_lemmas))]
 fn push_scope(
     tables: &Tables,
     out: &mut String,
@@ -83,6 +85,7 @@ fn push_scope(
 
 /// Writes the application of `f` to `x`.
 #[cycle(terms)]
+#[tactic(auto, using(hol_text::proofs::PrintLemmas::term_lemmas))]
 fn push_application(
     tables: &Tables,
     out: &mut String,
@@ -118,6 +121,7 @@ fn push_application(
 
 /// Writes a term, in parentheses unless it is plain.
 #[cycle(terms)]
+#[tactic(auto, using(hol_text::proofs::PrintLemmas::term_lemmas))]
 fn push_operand(
     tables: &Tables,
     out: &mut String,
@@ -138,6 +142,7 @@ fn push_operand(
 
 /// Writes a term, in parentheses unless it is a variable or a constant.
 #[cycle(terms)]
+#[tactic(auto, using(hol_text::proofs::PrintLemmas::term_lemmas))]
 fn push_argument(
     tables: &Tables,
     out: &mut String,

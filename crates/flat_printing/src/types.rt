@@ -47,6 +47,7 @@ pub fn push_type(tables: &Tables, out: &mut String, ty: TypeId) -> Result<(), Al
 
 /// Writes a name applied to types.
 #[cycle(types)]
+#[tactic(auto, using(crate::proofs::Texts::named_lemmas))]
 fn push_named(
     tables: &Tables,
     out: &mut String,
@@ -119,6 +120,7 @@ fn push_comma(out: &mut String, place: usize) -> Result<(), AllocError>
 }
 
 /// Writes a name with its type arguments in braces, which are absent where there are none.
+#[tactic(auto, using(crate::proofs::Texts::constant_lemmas))]
 pub(crate) fn push_constant(
     tables: &Tables,
     out: &mut String,
