@@ -1,0 +1,7 @@
+//! Canonical text of types and terms over the tables of `flat_terms`. The definitions of the text are those of `hol_terms`; none of its
+//! code is called.
+#![tactic(auto)]
+
+pub mod forms;
+pub mod terms;
+pub mod types;

@@ -1,0 +1,6 @@
+pub mod Sequents
+pub mod Equations
+pub mod Places
+pub mod Redexes
+pub mod Said
+pub mod Bridges
