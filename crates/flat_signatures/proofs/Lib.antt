@@ -1,0 +1,4 @@
+pub mod Segments
+pub mod Fronts
+pub mod Signatures
+pub mod Numbers
