@@ -6,3 +6,5 @@ pub mod OverSteps
 pub mod VariableSteps
 pub mod PairSteps
 pub mod ConstantSteps
+pub mod TypeSteps
+pub mod TypeReads
