@@ -1,10 +1,9 @@
 -- How the output is put together.
-use Rattle.std.proofs.Common.{◌≡◌, ◌≢◌, ℕ, ◌+◌, Bool, true, false, not, List, [], ◌∷◌, ◌++◌, length, take, Option, Some, None, Result, Ok, Err, IfOk, refl, sym, ap, ◌∙◌, subst, codes, append_assoc, append-nil, eqb-true, arith, cond}
+use Rattle.std.proofs.Common.{◌≡◌, ◌≢◌, ◌+◌, Bool, true, false, List, [], ◌∷◌, ◌++◌, length, take, Option, Some, None, Result, Ok, Err, IfOk, refl, sym, ap, ◌∙◌, subst, codes, append_assoc, append-nil, eqb-true, arith}
 use Rattle.std.specs.Prelude.{◌==◌}
 use Rattle.std.specs.List.{list_any}
 use Rattle.std.specs.Option.{option_map}
 use Rattle.hol_terms.specs.Signature.{Signature}
-use Rattle.std.specs.Fmt.{decimal}
 use Rattle.std.proofs.lemmas.Bool.{true≢false}
 use Rattle.hol_terms.specs.Definition.{Definition, signature_of}
 use Rattle.hol_terms.specs.Base.{base}
@@ -15,15 +14,15 @@ use Rattle.theory_text.specs.Definable.{IsDefinable}
 use Rattle.theory_text.specs.Views.{define_view}
 use Rattle.theory_text.specs.declared.command.DefineCommand.{DefineCommand}
 use Rattle.theory_text.proofs.Stated.{stated_definable}
-use Rattle.hb_top.specs.Answer.{limit, in_force, base_line, is_refusal}
-use Rattle.hb_top.specs.Layout.{unlines}
-use Rattle.hb_top.specs.Headline.{IsCheck}
-use Rattle.hb_top.specs.Outcome.{is_conservative, defined_lines, refused_lines, IsOutputOf}
-use Rattle.hb_top.proofs.BaseTypes.{base_gives_types}
-use Rattle.hb_top.proofs.Outputs.{answer_front}
+use Rattle.theory_answers.specs.Answer.{limit, in_force, is_refusal}
+use Rattle.theory_answers.specs.Layout.{unlines}
+use Rattle.theory_answers.specs.Answered.{IsCheck}
+use Rattle.theory_answers.specs.Verdicts.{is_conservative}
+use Rattle.theory_answers.proofs.BaseTypes.{base_gives_types}
+use Rattle.theory_answers.proofs.Outputs.{answer_front}
 
 -- one line more
-unlines-push : (ls : List Text) (l : Text) → unlines ls ++ l ++ 10 ∷ [] ≡ unlines (ls ++ l ∷ [])
+pub unlines-push : (ls : List Text) (l : Text) → unlines ls ++ l ++ 10 ∷ [] ≡ unlines (ls ++ l ∷ [])
 unlines-push [] l = sym (append-nil (l ++ 10 ∷ []))
 unlines-push (k ∷ ls) l =
     ap (λ t. t ++ 10 ∷ []) (append_assoc (k ++ 10 ∷ []) (unlines ls) l) ∙ append_assoc (k ++ 10 ∷ []) (unlines ls ++ l) (10 ∷ []) ∙ ap (λ t. (k ++ 10 ∷ []) ++ t) (unlines-push ls l)
@@ -63,18 +62,6 @@ definable_here b d e = stated_definable (signature_of (base in_force)) b d base_
 pub fits_here : (ds : List Definition) (d : Define) → ds ≡ base in_force → IsDefinable (signature_of (base in_force)) d → is_conservative d ≡ true → const_fault ds d.name d.body ≡ None
 fits_here ds d e h c = rw e (rw (h.named, h.closed, c) refl)
 
-pub as_defined : (d : Define) (out : Text) (r : Bool) → is_conservative d ≡ true → out ≡ unlines (defined_lines d) → r ≡ false → IsOutputOf d out r
-as_defined d out r c e f = record { text = e ∙ ap (λ (t : Bool). unlines (cond t (defined_lines d) (refused_lines d))) (sym c); decided = f ∙ ap not (sym c) }
-
-pub as_refused : (d : Define) (out : Text) (r : Bool) → is_conservative d ≡ false → out ≡ unlines (refused_lines d) → r ≡ true → IsOutputOf d out r
-as_refused d out r c e f = record { text = e ∙ ap (λ (t : Bool). unlines (cond t (defined_lines d) (refused_lines d))) (sym c); decided = f ∙ ap not (sym c) }
-
--- the refusal of a type variable, from the pieces that were pushed
-pub stray_pushed : (s w w1 w2 w3 w4 v t : Text) (p q : ℕ) → w1 ≡ codes "conservativity '" → w2 ≡ w1 ++ w → w ≡ s → w3 ≡ w2 ++ codes " " → w4 ≡ w3 ++ decimal q → q ≡ p → v ≡ w4
-    → t ≡ unlines (base_line ∷ (codes "refused " ++ v) ∷ []) → t ≡ unlines (base_line ∷ (codes "refused conservativity '" ++ s ++ codes " " ++ decimal p) ∷ [])
-stray_pushed s w w1 w2 w3 w4 v t p q e1 e2 e e3 e4 f e5 e6 =
-    e6 ∙ ap (λ x. unlines (base_line ∷ (codes "refused " ++ x) ∷ [])) (e5 ∙ e4 ∙ (λ i. (e3 ∙ ap (λ x. x ++ codes " ") (e2 ∙ (λ j. e1 j ++ e j))) i ++ decimal (f i)))
-
 -- what holds of a result by two of its facts
 pub both_ok : {X E : Type 0} {P Q R : X → Type 0} (r : Result X E) → IfOk r P → IfOk r Q → ((x : X) → P x → Q x → R x) → IfOk r R
 both_ok (Ok x) p q f = f x p q
@@ -93,3 +80,9 @@ a_define o c s b e n = sym e ∙ ap (option_map define_view) n
 
 pub over_base : (s : Signature) (ds : List Definition) (b : Text) (o : Option Define) → s ≡ signature_of ds → ds ≡ base in_force → define_of s b ≡ o → define_of (signature_of (base in_force)) b ≡ o
 over_base s ds b o e d h = ap (λ (t : Signature). define_of t b) (sym (e ∙ ap signature_of d)) ∙ h
+
+-- the base line and a refusal
+pub refused_pushed : (b line t1 t2 : Text) (l : Text) → t1 ≡ unlines (b ∷ []) → t2 ≡ t1 ++ l ++ 10 ∷ [] → l ≡ line → t2 ≡ unlines (b ∷ line ∷ [])
+refused_pushed b line t1 t2 l e f g = f ∙ (λ i. e i ++ g i ++ 10 ∷ []) ∙ unlines-push (b ∷ []) line
+
+pub ruleset refused_lemmas = (refused_pushed)

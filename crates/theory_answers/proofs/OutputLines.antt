@@ -5,8 +5,8 @@ use Rattle.std.proofs.lemmas.Bool.{and_parts, not-true}
 use Rattle.hol_terms.specs.Definition.{Definition}
 use Rattle.hol_terms.specs.Text.{Text}
 use Rattle.hol_terms.specs.Sound.{lines_after, complete_lines, AreSoundAfter, IsSound}
-use Rattle.hb_top.specs.Answer.{base_line, is_answer_line, answers}
-use Rattle.hb_top.specs.Layout.{unlines, Section, section_lines, IsTheoremLine, IsEnding, IsOwned}
+use Rattle.theory_answers.specs.Answer.{base_line, is_answer_line, answers}
+use Rattle.theory_answers.specs.Layout.{unlines, Section, section_lines, IsTheoremLine, IsEnding, IsOwned}
 
 -- no byte is a newline
 abbrev pub is_line : Text → Bool

@@ -21,12 +21,12 @@ use Rattle.hol_terms.proofs.Defining.{const_derivable}
 use Rattle.hol_terms.proofs.Typed.{IsOver-type}
 use Rattle.theory_text.specs.Command.{Define, define_of}
 use Rattle.theory_text.specs.Definable.{IsDefinable}
-use Rattle.hb_top.specs.Answer.{limit, in_force, base_line, section_line, define_fact, stray_line, limit_line, unbuilt_line, command_lines, text_lines, answer, is_refusal, is_answer_line}
-use Rattle.hb_top.specs.Layout.{unlines, Section, section_lines, IsTheoremLine, IsEnding, accepted, refused}
-use Rattle.hb_top.specs.Headline.{IsCheck}
-use Rattle.hb_top.specs.Outcome.{is_conservative, defined_lines, refused_lines, IsOutputOf}
-use Rattle.hb_top.proofs.OutputLines.{is_line, answers_read, sound_from_lines, owned_from_lines}
-use Rattle.hb_top.proofs.Lines.{line_append, segment_line, name_line, decimal_line, base_lines, is_type_line, type_is_line, type_line, is_term_line, term_is_line, term_line, fact_line}
+use Rattle.theory_answers.specs.Answer.{limit, in_force, base_line, section_line, define_fact, stray_line, limit_line, unbuilt_line, command_lines, text_lines, answer, is_refusal, is_answer_line}
+use Rattle.theory_answers.specs.Layout.{unlines, Section, section_lines, IsTheoremLine, IsEnding, accepted, refused}
+use Rattle.theory_answers.specs.Answered.{IsCheck}
+use Rattle.theory_answers.specs.Verdicts.{is_conservative, defined_lines}
+use Rattle.theory_answers.proofs.OutputLines.{is_line, answers_read, sound_from_lines, owned_from_lines}
+use Rattle.theory_answers.proofs.Lines.{line_append, segment_line, name_line, decimal_line, base_lines, is_type_line, type_is_line, type_line, is_term_line, term_is_line, term_line, fact_line}
 
 -- ---- the answer to each kind of text
 
@@ -47,7 +47,7 @@ text_lines-some (c ∷ b) n = refl
 answer_nothing : (b : Text) → b ≡ [] → answer b ≡ base_line ∷ []
 answer_nothing b e = ap answer e
 
-answer_read : (b : Text) → length b ≤ limit → b ≢ [] → (o : Option Define) → define_of (signature_of (base in_force)) b ≡ o → answer b ≡ base_line ∷ command_lines o
+pub answer_read : (b : Text) → length b ≤ limit → b ≢ [] → (o : Option Define) → define_of (signature_of (base in_force)) b ≡ o → answer b ≡ base_line ∷ command_lines o
 answer_read b h n o e = answer_short b h ∙ ap (λ ls. base_line ∷ ls) (text_lines-some b n ∙ ap command_lines e)
 
 -- one byte past the limit settles the answer
@@ -96,6 +96,10 @@ unfolding digits
 nothing_are_lines = refl
 
 -- ---- a definition
+
+-- the lines of a refused definition
+abbrev pub refused_lines : Define → List Text
+refused_lines d = base_line ∷ stray_line d ∷ []
 
 record AreLines (d : Define) : Type 0 where
   name : is_line d.name ≡ true
@@ -160,21 +164,14 @@ pub check_unbuilt : (b out : Text) (r : Bool) → length b ≤ limit → b ≢ [
 check_unbuilt b out r h n o e f =
     subst (λ o. IsCheck b o r) (sym e) (check_lines b r (refusal_lines unbuilt_line) [] (unbuilt_line ∷ []) (two_lines base_line unbuilt_line base_is_line refl) (sym (answer_read b h n None o)) (sym f) tt refl (All-nil _) (refused unbuilt_line refl))
 
-defined : (b : Text) (d : Define) → AreConservative (base in_force) → IsDefinable (signature_of (base in_force)) d → is_conservative d ≡ true → answer b ≡ base_line ∷ command_lines (Some d) → IsCheck b (unlines (defined_lines d)) false
+pub defined : (b : Text) (d : Define) → AreConservative (base in_force) → IsDefinable (signature_of (base in_force)) d → is_conservative d ≡ true → answer b ≡ base_line ∷ command_lines (Some d) → IsCheck b (unlines (defined_lines d)) false
 defined b d k h c a =
     let same : base_line ∷ section_line d ∷ define_fact d ∷ [] ≡ answer b = sym (a ∙ ap (λ (t : Bool). base_line ∷ cond t (section_line d ∷ define_fact d ∷ []) (stray_line d ∷ [])) c) in
     check_lines b false (defined_lines d) (section_of d ∷ []) [] (defined_are_lines d (are_lines d h)) same refl (section_sound (base in_force) d k (const_def_of d h c)) (section_laid_out d)
     (All-cons (λ s. All IsTheoremLine s.theorems) (section_of d) [] (All-cons IsTheoremLine (define_fact d) [] refl (All-nil IsTheoremLine)) (All-nil _))
     accepted
 
-strayed : (b : Text) (d : Define) → IsDefinable (signature_of (base in_force)) d → is_conservative d ≡ false → answer b ≡ base_line ∷ command_lines (Some d) → IsCheck b (unlines (refused_lines d)) true
+pub strayed : (b : Text) (d : Define) → IsDefinable (signature_of (base in_force)) d → is_conservative d ≡ false → answer b ≡ base_line ∷ command_lines (Some d) → IsCheck b (unlines (refused_lines d)) true
 strayed b d h c a =
     let same : base_line ∷ stray_line d ∷ [] ≡ answer b = sym (a ∙ ap (λ (t : Bool). base_line ∷ cond t (section_line d ∷ define_fact d ∷ []) (stray_line d ∷ [])) c) in
     check_lines b true (refused_lines d) [] (stray_line d ∷ []) (refused_are_lines d (are_lines d h)) same refl tt refl (All-nil _) (refused (stray_line d) refl)
-
-pub check_define : (b out : Text) (r : Bool) (d : Define) → length b ≤ limit → b ≢ [] → define_of (signature_of (base in_force)) b ≡ Some d → IsDefinable (signature_of (base in_force)) d → IsOutputOf d out r → (r ≡ false → AreConservative (base in_force)) → IsCheck b out r
-check_define b out r d l n e h o k = at (is_conservative d) refl o.text o.decided
-  where
-    at : (c : Bool) → is_conservative d ≡ c → out ≡ unlines (cond c (defined_lines d) (refused_lines d)) → r ≡ not c → IsCheck b out r
-    at true c t f = subst (λ (x : Text). IsCheck b x r) (sym t) (subst (λ (x : Bool). IsCheck b (unlines (defined_lines d)) x) (sym f) (defined b d (k f) h c (answer_read b l n (Some d) e)))
-    at false c t f = subst (λ (x : Text). IsCheck b x r) (sym t) (subst (λ (x : Bool). IsCheck b (unlines (refused_lines d)) x) (sym f) (strayed b d h c (answer_read b l n (Some d) e)))

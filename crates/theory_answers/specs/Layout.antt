@@ -7,7 +7,7 @@ use Rattle.hol_terms.specs.Tm.{Tm}
 use Rattle.hol_terms.specs.Definition.{const_def}
 use Rattle.hol_terms.specs.Text.{Text, definition_line}
 use Rattle.hol_terms.specs.Sound.{complete_lines, begins_with}
-use Rattle.hb_top.specs.Answer.{base_line}
+use Rattle.theory_answers.specs.Answer.{base_line}
 
 -- each line with its newline
 abbrev pub unlines : List Text → Text

@@ -1,6 +1,6 @@
 //! The output that answers an input.
 
-ghost use Rattle.std.specs.Prelude.{◌≡◌, true, false, [], ◌∷◌, ◌++◌, None, codes, string_bytes, IfOk, OnOk};
+ghost use Rattle.std.specs.Prelude.{◌≡◌, [], ◌∷◌, ◌++◌, None, codes, string_bytes, IfOk, OnOk};
 ghost use Rattle.std.specs.Fmt.{decimal};
 ghost use Rattle.hol_terms.specs.Base.{base};
 ghost use Rattle.hol_terms.specs.Definition.{const_def, signature_of};
@@ -11,69 +11,54 @@ ghost use Rattle.hol_terms.specs.Text.{definition_line, theorem_line};
 ghost use Rattle.hol_terms.specs.Typing.{tm_type};
 ghost use Rattle.hol_terms.specs.TyVars.{own_const};
 ghost use Rattle.hol_kernel.specs.Fault.{const_fault};
-ghost use Rattle.hb_top.specs.Answer.{in_force, base_line, stray_line};
-ghost use Rattle.hb_top.specs.Layout.{unlines};
-ghost use Rattle.hb_top.specs.Headline.{IsCheck};
-ghost use Rattle.hb_top.specs.Outcome.{IsOutputOf};
-ghost use Rattle.theory_text.specs.Definable.{IsDefinable};
-ghost use Rattle.theory_text.specs.Views.{define_view};
+ghost use Rattle.theory_answers.specs.Answer.{in_force, base_line};
+ghost use Rattle.theory_answers.specs.Layout.{unlines};
+ghost use Rattle.theory_answers.specs.Answered.{IsCheck};
+ghost use Rattle.theory_answers.specs.Verdicts.{refusal_line};
 
-use crate::base::base_kernel;
-use crate::input::LIMIT;
+use crate::verdict::{Refusal, Verdict, verdict_of};
 use hol_kernel::Kernel;
 use hol_terms::terms::Term;
 use hol_text::print::{definition_line, theorem_line};
 use std::alloc::{AllocError, Global};
-use theory_text::command::{DefineCommand, read_define};
+use std::fmt::Write;
 
 /// An output, and whether it ends in a refusal.
 #[derive(Drop)]
-pub(crate) struct Output {
-    pub(crate) text: String,
-    pub(crate) refused: bool,
+pub struct Output {
+    pub text: String,
+    pub refused: bool,
 }
 
-/// The output of `check` on an input of which at most the limit and one byte more are given.
-pub(crate) fn output_of(alloc: Global, input: &[u8]) -> Result<Output, AllocError>
+/// The output of `check` on an input of which at most the limit and one byte more are given, over a kernel with the base definitions
+/// that are in force. The only error is want of memory.
+pub fn output_of(alloc: Global, kernel: &mut Kernel, input: &[u8]) -> Result<Output, AllocError>
+    requires { kernel.old.defs ≡ base in_force }
     ensures { IfOk result (λ o. IsCheck input.now (string_bytes o.text) o.refused) }
 {
-    let mut kernel = base_kernel(alloc)?;
-    if input.len() > LIMIT {
-        return refusal(alloc, "limit input 1048576");
+    match verdict_of(alloc, kernel, input)? {
+        Verdict::Empty => {
+            let text = begin(alloc)?;
+            Ok(Output {
+                text,
+                refused: false,
+            })
+        }
+        Verdict::Define(command) => {
+            let text = section(alloc, kernel, command.name.as_str(), &command.body)?;
+            Ok(Output {
+                text,
+                refused: false,
+            })
+        }
+        Verdict::Refused(refusal) => {
+            let text = refused(alloc, &refusal)?;
+            Ok(Output {
+                text,
+                refused: true,
+            })
+        }
     }
-    if input.is_empty() {
-        let text = begin(alloc)?;
-        return Ok(Output {
-            text,
-            refused: false,
-        });
-    }
-    let Some(command) = read_define(alloc, kernel.sig(), input)? else {
-        return refusal(alloc, "unbuilt - 0");
-    };
-    output_of_define(alloc, &mut kernel, &command)
-}
-
-/// The output of a definition: its section, or its refusal where its term has a type variable that its type has not. A definition
-/// is made over the base definitions, which are then conservative.
-fn output_of_define(
-    alloc: Global,
-    kernel: &mut Kernel,
-    command: &DefineCommand,
-) -> Result<Output, AllocError>
-    requires base { kernel.old.defs ≡ base in_force }
-    requires definable { IsDefinable (signature_of (base in_force)) (define_view command.now) }
-    ensures output { IfOk result (λ o. IsOutputOf (define_view command.now) (string_bytes o.text) o.refused) }
-    ensures conservative { IfOk result (λ o. o.refused ≡ false → AreConservative (base in_force)) }
-{
-    if !command.body.is_within(command.body.type_of()) {
-        return stray_refusal(alloc, command);
-    }
-    let text = section(alloc, kernel, command.name.as_str(), &command.body)?;
-    Ok(Output {
-        text,
-        refused: false,
-    })
 }
 
 /// The base line.
@@ -90,37 +75,33 @@ fn push_line(text: &mut String, line: &str) -> Result<(), AllocError>
     text.push_str("\n")
 }
 
-/// The base line and a refusal.
-fn refusal(alloc: Global, what: &str) -> Result<Output, AllocError>
-    ensures text { IfOk result (λ o. string_bytes o.text ≡ unlines (base_line ∷ (codes "refused " ++ what.now) ∷ [])) }
-    ensures refused { IfOk result (λ o. o.refused ≡ true) }
-{
-    let mut text = begin(alloc)?;
-    text.push_str("refused ")?;
-    push_line(&mut text, what)?;
-    Ok(Output {
-        text,
-        refused: true,
-    })
-}
-
 fn push_number(text: &mut String, n: usize) -> Result<(), AllocError>
     ensures { OnOk result (string_bytes text.new ≡ string_bytes text.old ++ decimal n) }
 {
     write!(text, "{n}")
 }
 
-/// The base line and the refusal of a type variable, with the place where it stands.
-fn stray_refusal(alloc: Global, command: &DefineCommand) -> Result<Output, AllocError>
-    ensures text { IfOk result (λ o. string_bytes o.text ≡ unlines (base_line ∷ stray_line (define_view command.now) ∷ [])) }
-    ensures refused { IfOk result (λ o. o.refused ≡ true) }
+fn refusal_line(alloc: Global, refusal: &Refusal) -> Result<String, AllocError>
+    ensures { IfOk result (λ line. string_bytes line ≡ refusal_line refusal.now) }
 {
-    let mut what = String::from_str(alloc, "conservativity '")?;
-    what.push_str(command.stray.as_str())?;
-    what.push_str(" ")?;
-    push_number(&mut what, command.stray_place)?;
-    let output = refusal(alloc, what.as_str())?;
-    Ok(output)
+    let mut line = String::from_str(alloc, "refused ")?;
+    line.push_str(refusal.test.as_str())?;
+    line.push_str(" ")?;
+    line.push_str(refusal.name.as_str())?;
+    line.push_str(" ")?;
+    push_number(&mut line, refusal.place)?;
+    Ok(line)
+}
+
+/// The base line and a refusal.
+#[tactic(auto, using(crate::proofs::Checking::refused_lemmas))]
+fn refused(alloc: Global, refusal: &Refusal) -> Result<String, AllocError>
+    ensures { IfOk result (λ text. string_bytes text ≡ unlines (base_line ∷ refusal_line refusal.now ∷ [])) }
+{
+    let line = refusal_line(alloc, refusal)?;
+    let mut text = begin(alloc)?;
+    push_line(&mut text, line.as_str())?;
+    Ok(text)
 }
 
 /// The base line and the section of a `define`: the constant is defined in the kernel, and the theorem line is the theorem that

@@ -1,5 +1,5 @@
 use Rattle.std.specs.Fmt.{digits}
-use Rattle.hb_top.proofs.output.begin.Goals as goal
+use Rattle.theory_answers.proofs.output.begin.Goals as goal
 
 pub returns : goal.returns
 unfolding digits

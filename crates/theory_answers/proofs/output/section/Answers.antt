@@ -5,10 +5,10 @@ use Rattle.hol_terms.specs.Text.{definition_line, theorem_line}
 use Rattle.hol_terms.specs.Sequent.{eq_tm}
 use Rattle.hol_terms.specs.TyVars.{own_const}
 use Rattle.hol_terms.specs.Typing.{tm_type}
-use Rattle.hb_top.specs.Answer.{base_line}
-use Rattle.hb_top.proofs.Checking.{section_pushed}
-use Rattle.hb_top.proofs.Conservative.{conservative_before}
-use Rattle.hb_top.proofs.output.section.Goals as goal
+use Rattle.theory_answers.specs.Answer.{base_line}
+use Rattle.theory_answers.proofs.Checking.{section_pushed}
+use Rattle.theory_answers.proofs.Conservative.{conservative_before}
+use Rattle.theory_answers.proofs.output.section.Goals as goal
 
 pub returns-clause-text : goal.returns-clause-text
 returns-clause-text c =
