@@ -12,7 +12,7 @@ use Rattle.hol_terms.specs.Sound.{IsSound}
 use Rattle.theory_answers.specs.Answer.{limit, in_force}
 use Rattle.theory_answers.specs.Answered.{IsCheck, IsDecided, IsLog}
 use Rattle.theory_answers.specs.Theories.{GainsLogOf, GainsPartOf}
-use Rattle.hb_top.specs.Headline.{IfAnswered, Answers, LogsAnswers, Leaves, IfCut, AnswersInPart, IsLogPart, nothing, front, LogsInPart, GainsSound, IsPrinting, IsWriting}
+use Rattle.hb_top.specs.Headline.{IfAnswered, Answers, LogsAnswers, Leaves, IfCut, AnswersInPart, IsLogPart, nothing, front, LogsInPart, GainsSound, IsGoodPart, no_bytes, some_bytes, GainsGoodPart, IsPrinting, IsWriting}
 use Rattle.hb_top.specs.declared.top.Status.{Status}
 use Rattle.hb_top.specs.declared.top.Status.TheVariants.{Done, Refused, Usage, ReadFault, WriteFault, Memory}
 use Rattle.theory_answers.proofs.Checking.{check_front}
@@ -99,7 +99,10 @@ unwritten_sound old = λ kept k. ([], same_kept kept old k, tt)
 pub unwritten_log : (left old : Option Text) → LogsInPart left old old
 unwritten_log left old = λ b e kept k. ([], same_kept kept old k, nothing)
 
-pub ruleset unwritten_lemmas = (unwritten_part, unwritten_sound, unwritten_log)
+pub unwritten_good : (old : Option Text) → GainsGoodPart old old
+unwritten_good old = λ kept k. ([], same_kept kept old k, no_bytes)
+
+pub ruleset unwritten_lemmas = (unwritten_part, unwritten_sound, unwritten_log, unwritten_good)
 
 pub run_cut : (s : Status) (old new : Option Text) {left new_left : Option Text} {input out : Text} {refused : Bool} → Ran left new_left input out refused
     → IsPrinting s → (s ≡ WriteFault → AppendsPart old new out) → IfCut s (AnswersInPart left old new)
@@ -177,3 +180,21 @@ log_parts WriteFault old new stops read w a p = part_log old new read p
 log_parts Memory old new stops read w a p = part_log old new read p
 log_parts Usage old new stops read w a p = absurd w
 log_parts ReadFault old new stops read w a p = absurd w
+
+whole_good : {input : Text} {stops : Bool} (old new : Option Text) → GainsLogOf input stops old new → GainsGoodPart old new
+whole_good old new g = λ kept k.
+    let all : take (length g.log) g.log ≡ g.log = take_all (length g.log) g.log (omega arith) in
+    (g.log, g.gained ∙ ap (λ o. append_told o g.log) k ∙ append_told-Some kept g.log, subst IsGoodPart all (some_bytes g.log g.answers.report (length g.log) g.answers.good g.answers.reports.sound))
+
+part_good : {input : Text} (old new : Option Text) → GainsPartOf input old new → GainsGoodPart old new
+part_good old new g = λ kept k.
+    let out = take g.gained.0 g.log in
+    (out, g.gained.1 ∙ ap (λ o. append_told o out) k ∙ append_told-Some kept out, some_bytes g.log g.answers.report g.gained.0 g.answers.good g.answers.reports.sound)
+
+pub log_good : (s : Status) (old new : Option Text) (input : Text) (stops : Bool) → IsWriting s → IfAnswered s (Writes input stops old new) → IfCut s (GainsPartOf input old new) → GainsGoodPart old new
+log_good Done old new input stops w a p = whole_good old new a.1
+log_good Refused old new input stops w a p = whole_good old new a.1
+log_good WriteFault old new input stops w a p = part_good old new p
+log_good Memory old new input stops w a p = part_good old new p
+log_good Usage old new input stops w a p = absurd w
+log_good ReadFault old new input stops w a p = absurd w

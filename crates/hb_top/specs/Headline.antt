@@ -4,6 +4,7 @@ use Rattle.hb_io.specs.Told.{Appends}
 use Rattle.hol_terms.specs.Text.{Text}
 use Rattle.hol_terms.specs.Sound.{IsSound}
 use Rattle.hol_terms.specs.Base.{base}
+use Rattle.hol_logs.specs.Log.{IsGoodLog}
 use Rattle.theory_answers.specs.Answer.{limit, in_force}
 use Rattle.theory_answers.specs.Answered.{IsCheck, IsPart, IsLog}
 use Rattle.hb_top.specs.declared.top.Status.{Status}
@@ -63,6 +64,15 @@ LogsInPart left old new = (b : Text) → left ≡ Some b → (kept : Text) → o
 -- the sink gained a text of which each theorem line is derivable over the definition lines before it, or nothing
 abbrev pub GainsSound : Option Text → Option Text → Type 0
 GainsSound old new = (kept : Text) → old ≡ Some kept → (out : Text) × (new ≡ Some (kept ++ out)) × IsSound (base in_force) out
+
+-- nothing, or a part from its front of a good log whose report is sound
+pub data IsGoodPart : Text → Type 0 where
+  no_bytes : IsGoodPart []
+  some_bytes : (log report : Text) (n : ℕ) → IsGoodLog in_force log report → IsSound (base in_force) report → IsGoodPart (take n log)
+
+-- the sink gained that
+abbrev pub GainsGoodPart : Option Text → Option Text → Type 0
+GainsGoodPart old new = (kept : Text) → old ≡ Some kept → (out : Text) × (new ≡ Some (kept ++ out)) × IsGoodPart out
 
 -- the sink gained the bytes, or a part of them from their front
 abbrev pub AppendsFront : Option Text → Option Text → Text → Type 0

@@ -2,7 +2,7 @@ ghost use Rattle.std.specs.Prelude.{◌≡◌, ◌≢◌, Some, None, map, strin
 ghost use Rattle.hb_io.specs.Faults.{Rose};
 ghost use Rattle.hb_io.specs.Told.{Appends, AppendsPart};
 ghost use Rattle.hb_top.specs.declared.top.Status.TheVariants as status;
-ghost use Rattle.hb_top.specs.Headline.{code_of, message_of, IfAnswered, Answers, LogsAnswers, Leaves, IfCut, AnswersInPart, LogsInPart, GainsSound, AppendsFront, IsUsage, IsCompletion, IsPrinting, IsWriting, IsUnwritten};
+ghost use Rattle.hb_top.specs.Headline.{code_of, message_of, IfAnswered, Answers, LogsAnswers, Leaves, IfCut, AnswersInPart, LogsInPart, GainsSound, GainsGoodPart, AppendsFront, IsUsage, IsCompletion, IsPrinting, IsWriting, IsUnwritten};
 ghost use Rattle.hol_terms.specs.Text.{Text};
 ghost use Rattle.program_words.specs.Words.{mode_of};
 ghost use Rattle.program_words.specs.declared.Mode.TheVariants as mode;
@@ -90,6 +90,7 @@ pub fn hbnf<S: Source, O: Sink, E: Sink>(
     // What stands after a fault and after want of memory, and what is said.
     ensures cut { mode_of (map string_bytes words.now) ≡ Some mode.Check → IfCut result (AnswersInPart (S.left src.old) (O.kept out.old) (O.kept out.new)) }
     ensures log_cut { mode_of (map string_bytes words.now) ≡ Some mode.Log → LogsInPart (S.left src.old) (O.kept out.old) (O.kept out.new) }
+    ensures log_sound { mode_of (map string_bytes words.now) ≡ Some mode.Log → GainsGoodPart (O.kept out.old) (O.kept out.new) }
     ensures sound { mode_of (map string_bytes words.now) ≢ Some mode.Log → GainsSound (O.kept out.old) (O.kept out.new) }
     ensures unwritten { IsUnwritten result (O.kept out.old) (O.kept out.new) }
     ensures check_unwritten { mode_of (map string_bytes words.now) ≢ Some mode.Log → result ≡ status.Memory → O.kept out.new ≡ O.kept out.old }
@@ -126,6 +127,7 @@ fn run<S: Source, O: Sink>(alloc: Global, words: &[String], src: &mut S, out: &m
     ensures write_fault { result ≡ status.WriteFault → Rose (O.faults out.old) (O.faults out.new) }
     ensures cut { mode_of (map string_bytes words.now) ≡ Some mode.Check → IfCut result (AnswersInPart (S.left src.old) (O.kept out.old) (O.kept out.new)) }
     ensures log_cut { mode_of (map string_bytes words.now) ≡ Some mode.Log → LogsInPart (S.left src.old) (O.kept out.old) (O.kept out.new) }
+    ensures log_sound { mode_of (map string_bytes words.now) ≡ Some mode.Log → GainsGoodPart (O.kept out.old) (O.kept out.new) }
     ensures sound { mode_of (map string_bytes words.now) ≢ Some mode.Log → GainsSound (O.kept out.old) (O.kept out.new) }
     ensures unwritten { IsUnwritten result (O.kept out.old) (O.kept out.new) }
     ensures check_unwritten { mode_of (map string_bytes words.now) ≢ Some mode.Log → result ≡ status.Memory → O.kept out.new ≡ O.kept out.old }
@@ -195,6 +197,7 @@ fn log<S: Source, O: Sink>(alloc: Global, src: &mut S, out: &mut O) -> Status
     ensures read_fault { result ≡ status.ReadFault → Rose (S.faults src.old) (S.faults src.new) }
     ensures write_fault { result ≡ status.WriteFault → Rose (O.faults out.old) (O.faults out.new) }
     ensures log_cut { LogsInPart (S.left src.old) (O.kept out.old) (O.kept out.new) }
+    ensures log_sound { GainsGoodPart (O.kept out.old) (O.kept out.new) }
     ensures unwritten { IsUnwritten result (O.kept out.old) (O.kept out.new) }
     ensures no_usage { result ≡ status.Usage → ⊥ }
 {

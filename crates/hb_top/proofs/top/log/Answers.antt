@@ -1,7 +1,7 @@
 use Rattle.std.proofs.Common.{subst}
 use Rattle.hol_terms.specs.Text.{Text}
 use Rattle.theory_answers.specs.Theories.{is_stop, IsTheory}
-use Rattle.hb_top.proofs.Running.{run_logs, log_decides, log_leaves, log_parts, unwritten_log}
+use Rattle.hb_top.proofs.Running.{run_logs, log_decides, log_leaves, log_parts, log_good, unwritten_log, unwritten_good}
 use Rattle.hb_top.proofs.top.log.Goals as goal
 
 pub returns-clause-log : goal.returns-clause-log
@@ -32,6 +32,12 @@ returns-clause-log_cut g c =
     let theory : IsTheory c.in-Ok.input.items t = subst (λ (b : Text). IsTheory b t) c.deref.ensures.value c.in-Ok-logged.ensures in
     log_parts c.write.result (g.O.Sink.kept c.args.out.now) (g.O.Sink.kept c.write.new.out) (is_stop t.end) (record { taken = e.taken; within = e.within; whole = e.whole }) c.write.ensures.status (c.write.ensures.written c.in-Ok.input.items theory) (c.write.ensures.cut c.in-Ok.input.items theory)
 
+pub returns-clause-log_sound : goal.returns-clause-log_sound
+returns-clause-log_sound g c =
+    let t = c.in-Ok-logged.theory in
+    let theory : IsTheory c.in-Ok.input.items t = subst (λ (b : Text). IsTheory b t) c.deref.ensures.value c.in-Ok-logged.ensures in
+    log_good c.write.result (g.O.Sink.kept c.args.out.now) (g.O.Sink.kept c.write.new.out) c.in-Ok.input.items (is_stop t.end) c.write.ensures.status (c.write.ensures.written c.in-Ok.input.items theory) (c.write.ensures.cut c.in-Ok.input.items theory)
+
 pub returns-in-Err-Fault-clause-log_cut : goal.returns-in-Err-Fault-clause-log_cut
 returns-in-Err-Fault-clause-log_cut g c = unwritten_log (g.S.Source.left c.args.src.now) (g.O.Sink.kept c.args.out.now)
 
@@ -40,3 +46,12 @@ returns-in-Err-Memory-clause-log_cut g c = unwritten_log (g.S.Source.left c.args
 
 pub returns-in_default-clause-log_cut : goal.returns-in_default-clause-log_cut
 returns-in_default-clause-log_cut g c = unwritten_log (g.S.Source.left c.args.src.now) (g.O.Sink.kept c.args.out.now)
+
+pub returns-in-Err-Fault-clause-log_sound : goal.returns-in-Err-Fault-clause-log_sound
+returns-in-Err-Fault-clause-log_sound g c = unwritten_good (g.O.Sink.kept c.args.out.now)
+
+pub returns-in-Err-Memory-clause-log_sound : goal.returns-in-Err-Memory-clause-log_sound
+returns-in-Err-Memory-clause-log_sound g c = unwritten_good (g.O.Sink.kept c.args.out.now)
+
+pub returns-in_default-clause-log_sound : goal.returns-in_default-clause-log_sound
+returns-in_default-clause-log_sound g c = unwritten_good (g.O.Sink.kept c.args.out.now)
