@@ -1,10 +1,3 @@
-pub mod OutputLines
 pub mod Shelves
-pub mod Conservative
-pub mod Lines
-pub mod BaseTypes
-pub mod Outputs
-pub mod Parts
-pub mod Checking
 pub mod Saying
 pub mod Running

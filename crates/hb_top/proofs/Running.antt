@@ -9,12 +9,14 @@ use Rattle.hb_io.proofs.ToldLemmas.{prepend_told-None, prepend_told-Some, append
 use Rattle.hol_terms.specs.Text.{Text}
 use Rattle.hol_terms.specs.Base.{base}
 use Rattle.hol_terms.specs.Sound.{IsSound}
-use Rattle.hb_top.specs.Answer.{limit, in_force}
-use Rattle.hb_top.specs.Headline.{IsCheck, IsDecided, IfAnswered, Answers, Leaves, IfCut, AnswersInPart, GainsSound, IsPrinting}
+use Rattle.theory_answers.specs.Answer.{limit, in_force}
+use Rattle.theory_answers.specs.Answered.{IsCheck, IsDecided, IsLog}
+use Rattle.theory_answers.specs.Theories.{GainsLogOf, GainsPartOf}
+use Rattle.hb_top.specs.Headline.{IfAnswered, Answers, LogsAnswers, Leaves, IfCut, AnswersInPart, IsLogPart, nothing, front, LogsInPart, GainsSound, IsGoodPart, no_bytes, some_bytes, GainsGoodPart, IsPrinting, IsWriting}
 use Rattle.hb_top.specs.declared.top.Status.{Status}
 use Rattle.hb_top.specs.declared.top.Status.TheVariants.{Done, Refused, Usage, ReadFault, WriteFault, Memory}
-use Rattle.hb_top.proofs.Checking.{check_front}
-use Rattle.hb_top.proofs.Parts.{part_of, no_part}
+use Rattle.theory_answers.proofs.Checking.{check_front}
+use Rattle.theory_answers.proofs.Parts.{part_of, no_part}
 
 -- what holds of an answered status goes over to what follows from it
 answered_maps : (s : Status) (P Q : Bool → Type 0) → ((refused : Bool) → P refused → Q refused) → IfAnswered s P → IfAnswered s Q
@@ -94,7 +96,13 @@ unwritten_part left old = λ b e kept k. ([], same_kept kept old k, no_part b)
 pub unwritten_sound : (old : Option Text) → GainsSound old old
 unwritten_sound old = λ kept k. ([], same_kept kept old k, tt)
 
-pub ruleset unwritten_lemmas = (unwritten_part, unwritten_sound)
+pub unwritten_log : (left old : Option Text) → LogsInPart left old old
+unwritten_log left old = λ b e kept k. ([], same_kept kept old k, nothing)
+
+pub unwritten_good : (old : Option Text) → GainsGoodPart old old
+unwritten_good old = λ kept k. ([], same_kept kept old k, no_bytes)
+
+pub ruleset unwritten_lemmas = (unwritten_part, unwritten_sound, unwritten_log, unwritten_good)
 
 pub run_cut : (s : Status) (old new : Option Text) {left new_left : Option Text} {input out : Text} {refused : Bool} → Ran left new_left input out refused
     → IsPrinting s → (s ≡ WriteFault → AppendsPart old new out) → IfCut s (AnswersInPart left old new)
@@ -118,3 +126,75 @@ run_sound WriteFault old new {input} {out} {refused} c p a w = let x = w refl in
 run_sound Memory old new c p a w = absurd p
 run_sound Usage old new c p a w = absurd p
 run_sound ReadFault old new c p a w = absurd p
+
+-- ---- logs
+
+-- the facts of a run that came to writing a log
+pub record Read (left new_left : Option Text) (input : Text) : Type 0 where
+  pub taken : Takes left new_left input
+  pub within : length input ≤ limit + 1
+  pub whole : length input ≤ limit → IsAtEnd new_left
+
+log_of_all : {left new_left : Option Text} {input log : Text} {refused : Bool} → Read left new_left input → IsLog input log refused → (b : Text) → left ≡ Some b → IsLog b log refused
+log_of_all {left} {new_left} {input} {log} {refused} r l b e =
+    let f = front_is limit left new_left input b r.taken r.within r.whole e in
+    record { report = l.report; good = l.good; reports = check_front b l.report refused (subst (λ (c : Text). IsCheck c l.report refused) f.front l.reports) }
+
+-- the sink has a log of the input
+abbrev pub Writes : Text → Bool → Option Text → Option Text → Bool → Type 0
+Writes input stops old new r = (stops ≡ r) × GainsLogOf input stops old new
+
+pub run_logs : (s : Status) (old new : Option Text) {left new_left : Option Text} {input : Text} (stops : Bool) → Read left new_left input
+    → IfAnswered s (Writes input stops old new) → IfAnswered s (LogsAnswers left old new)
+run_logs s old new {left} {new_left} {input} stops read =
+    answered_maps s (Writes input stops old new) (LogsAnswers left old new)
+    (λ r w. λ b e kept k. let g = w.1 in (g.log, g.gained ∙ ap (λ o. append_told o g.log) k ∙ append_told-Some kept g.log, subst (λ (q : Bool). IsLog b g.log q) w.0 (log_of_all read g.answers b e)))
+
+pub log_decides : (s : Status) (old new : Option Text) {left new_left : Option Text} {input : Text} (stops : Bool) → Read left new_left input
+    → IfAnswered s (Writes input stops old new) → IfAnswered s (λ r. (b : Text) → left ≡ Some b → IsDecided b r)
+log_decides s old new {left} {new_left} {input} stops read =
+    answered_maps s (Writes input stops old new) (λ r. (b : Text) → left ≡ Some b → IsDecided b r)
+    (λ r w. λ b e. let l : IsLog b w.1.log r = subst (λ (q : Bool). IsLog b w.1.log q) w.0 (log_of_all read w.1.answers b e) in l.reports.decided)
+
+pub log_leaves : (s : Status) (old new : Option Text) {left new_left : Option Text} {input : Text} (stops : Bool) → Read left new_left input
+    → IfAnswered s (Writes input stops old new) → IfAnswered s (λ r. Leaves left new_left)
+log_leaves s old new {left} {new_left} {input} stops read =
+    answered_maps s (Writes input stops old new) (λ r. Leaves left new_left)
+    (λ r w. λ b e. let f = front_is limit left new_left input b read.taken read.within read.whole e in f.left)
+
+whole_log : {left new_left : Option Text} {input : Text} {stops : Bool} (old new : Option Text) → Read left new_left input → GainsLogOf input stops old new → LogsInPart left old new
+whole_log {left} {new_left} {input} {stops} old new read g = λ b e kept k.
+    let all : take (length g.log) g.log ≡ g.log = take_all (length g.log) g.log (omega arith) in
+    (g.log, g.gained ∙ ap (λ o. append_told o g.log) k ∙ append_told-Some kept g.log, subst (IsLogPart b) all (front g.log stops (length g.log) (log_of_all read g.answers b e)))
+
+part_log : {left new_left : Option Text} {input : Text} (old new : Option Text) → Read left new_left input → GainsPartOf input old new → LogsInPart left old new
+part_log {left} {new_left} {input} old new read g = λ b e kept k.
+    let out = take g.gained.0 g.log in
+    (out, g.gained.1 ∙ ap (λ o. append_told o out) k ∙ append_told-Some kept out, front g.log g.refused g.gained.0 (log_of_all read g.answers b e))
+
+pub log_parts : (s : Status) (old new : Option Text) {left new_left : Option Text} {input : Text} (stops : Bool) → Read left new_left input
+    → IsWriting s → IfAnswered s (Writes input stops old new) → IfCut s (GainsPartOf input old new) → LogsInPart left old new
+log_parts Done old new stops read w a p = whole_log old new read a.1
+log_parts Refused old new stops read w a p = whole_log old new read a.1
+log_parts WriteFault old new stops read w a p = part_log old new read p
+log_parts Memory old new stops read w a p = part_log old new read p
+log_parts Usage old new stops read w a p = absurd w
+log_parts ReadFault old new stops read w a p = absurd w
+
+whole_good : {input : Text} {stops : Bool} (old new : Option Text) → GainsLogOf input stops old new → GainsGoodPart old new
+whole_good old new g = λ kept k.
+    let all : take (length g.log) g.log ≡ g.log = take_all (length g.log) g.log (omega arith) in
+    (g.log, g.gained ∙ ap (λ o. append_told o g.log) k ∙ append_told-Some kept g.log, subst IsGoodPart all (some_bytes g.log g.answers.report (length g.log) g.answers.good g.answers.reports.sound))
+
+part_good : {input : Text} (old new : Option Text) → GainsPartOf input old new → GainsGoodPart old new
+part_good old new g = λ kept k.
+    let out = take g.gained.0 g.log in
+    (out, g.gained.1 ∙ ap (λ o. append_told o out) k ∙ append_told-Some kept out, some_bytes g.log g.answers.report g.gained.0 g.answers.good g.answers.reports.sound)
+
+pub log_good : (s : Status) (old new : Option Text) (input : Text) (stops : Bool) → IsWriting s → IfAnswered s (Writes input stops old new) → IfCut s (GainsPartOf input old new) → GainsGoodPart old new
+log_good Done old new input stops w a p = whole_good old new a.1
+log_good Refused old new input stops w a p = whole_good old new a.1
+log_good WriteFault old new input stops w a p = part_good old new p
+log_good Memory old new input stops w a p = part_good old new p
+log_good Usage old new input stops w a p = absurd w
+log_good ReadFault old new input stops w a p = absurd w

@@ -1,12 +1,12 @@
 -- What the program promises of the words, the input, the output and the status.
-use Rattle.std.specs.Prelude.{◌≡◌, ℕ, ◌+◌, Bool, true, false, List, [], ◌∷◌, ◌++◌, Option, Some, take, drop, codes}
-use Rattle.std.specs.List.{list_any}
+use Rattle.std.specs.Prelude.{◌≡◌, ℕ, ◌+◌, Bool, true, false, [], ◌∷◌, ◌++◌, Option, Some, take, drop, codes}
 use Rattle.hb_io.specs.Told.{Appends}
 use Rattle.hol_terms.specs.Text.{Text}
 use Rattle.hol_terms.specs.Sound.{IsSound}
 use Rattle.hol_terms.specs.Base.{base}
-use Rattle.hb_top.specs.Answer.{limit, in_force, answer, answers, is_refusal}
-use Rattle.hb_top.specs.Layout.{IsOwned}
+use Rattle.hol_logs.specs.Log.{IsGoodLog}
+use Rattle.theory_answers.specs.Answer.{limit, in_force}
+use Rattle.theory_answers.specs.Answered.{IsCheck, IsPart, IsLog}
 use Rattle.hb_top.specs.declared.top.Status.{Status}
 use Rattle.hb_top.specs.declared.top.Status.TheVariants.{Done, Refused, Usage, ReadFault, WriteFault, Memory}
 
@@ -28,23 +28,6 @@ message_of ReadFault = codes "read fault" ++ 10 ∷ []
 message_of WriteFault = codes "write fault" ++ 10 ∷ []
 message_of Memory = codes "out of memory" ++ 10 ∷ []
 
--- the text's answer has a refusal, or has none
-abbrev pub IsDecided : Text → Bool → Type 0
-IsDecided b refused = list_any is_refusal (answer b) ≡ refused
-
--- the output answers the text, each theorem line is derivable over the definition lines before it, and definitions stand where
--- they belong
-pub record IsCheck (b out : Text) (refused : Bool) : Type 0 where
-  pub answered : answers out ≡ answer b
-  pub decided : IsDecided b refused
-  pub sound : IsSound (base in_force) out
-  pub owned : IsOwned out
-
--- the output was cut short: its answer lines begin the answer, and each theorem line is derivable over the definition lines before it
-pub record IsPart (b out : Text) : Type 0 where
-  pub answered : (rest : List Text) × (answers out ++ rest ≡ answer b)
-  pub sound : IsSound (base in_force) out
-
 -- a fact for the statuses Done and Refused, which say whether the answer has a refusal
 abbrev pub IfAnswered : Status → (Bool → Type 0) → Type 0
 IfAnswered Done P = P false
@@ -65,9 +48,31 @@ IfCut s P = Unit {0}
 abbrev pub AnswersInPart : Option Text → Option Text → Option Text → Type 0
 AnswersInPart left old new = (b : Text) → left ≡ Some b → (kept : Text) → old ≡ Some kept → (out : Text) × (new ≡ Some (kept ++ out)) × IsPart b out
 
+-- the sink gained a log of the source's bytes: a good one, whose report is an output that answers them
+abbrev pub LogsAnswers : Option Text → Option Text → Option Text → Bool → Type 0
+LogsAnswers left old new refused = (b : Text) → left ≡ Some b → (kept : Text) → old ≡ Some kept → (log : Text) × (new ≡ Some (kept ++ log)) × IsLog b log refused
+
+-- nothing, or a part of such a log from its front
+pub data IsLogPart (b : Text) : Text → Type 0 where
+  nothing : IsLogPart b []
+  front : (log : Text) (refused : Bool) (n : ℕ) → IsLog b log refused → IsLogPart b (take n log)
+
+-- the sink gained that
+abbrev pub LogsInPart : Option Text → Option Text → Option Text → Type 0
+LogsInPart left old new = (b : Text) → left ≡ Some b → (kept : Text) → old ≡ Some kept → (out : Text) × (new ≡ Some (kept ++ out)) × IsLogPart b out
+
 -- the sink gained a text of which each theorem line is derivable over the definition lines before it, or nothing
 abbrev pub GainsSound : Option Text → Option Text → Type 0
 GainsSound old new = (kept : Text) → old ≡ Some kept → (out : Text) × (new ≡ Some (kept ++ out)) × IsSound (base in_force) out
+
+-- nothing, or a part from its front of a good log whose report is sound
+pub data IsGoodPart : Text → Type 0 where
+  no_bytes : IsGoodPart []
+  some_bytes : (log report : Text) (n : ℕ) → IsGoodLog in_force log report → IsSound (base in_force) report → IsGoodPart (take n log)
+
+-- the sink gained that
+abbrev pub GainsGoodPart : Option Text → Option Text → Type 0
+GainsGoodPart old new = (kept : Text) → old ≡ Some kept → (out : Text) × (new ≡ Some (kept ++ out)) × IsGoodPart out
 
 -- the sink gained the bytes, or a part of them from their front
 abbrev pub AppendsFront : Option Text → Option Text → Text → Type 0
@@ -97,9 +102,13 @@ IsPrinting Refused = Unit {0}
 IsPrinting WriteFault = Unit {0}
 IsPrinting s = ⊥
 
--- after Usage, ReadFault and Memory nothing was written
+-- what writing a log may answer
+abbrev pub IsWriting : Status → Type 0
+IsWriting Memory = Unit {0}
+IsWriting s = IsPrinting s
+
+-- after Usage and ReadFault nothing was written
 abbrev pub IsUnwritten : Status → Option Text → Option Text → Type 0
 IsUnwritten Usage old new = new ≡ old
 IsUnwritten ReadFault old new = new ≡ old
-IsUnwritten Memory old new = new ≡ old
 IsUnwritten s old new = Unit {0}

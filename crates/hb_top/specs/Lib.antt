@@ -1,4 +1,2 @@
-pub mod Answer
-pub mod Layout
 pub mod Outcome
 pub mod Headline

@@ -4,15 +4,13 @@ ghost use Rattle.std.specs.Prelude.{◌≡◌, ◌+◌, ◌≤◌, length, IfOk}
 ghost use Rattle.std.specs.Io.KnownBytes.{IsAtEnd};
 ghost use Rattle.hb_io.specs.Faults.{Rose};
 ghost use Rattle.hb_io.specs.Told.{Takes};
-ghost use Rattle.hb_top.specs.Answer.{limit};
+ghost use Rattle.theory_answers.specs.Answer.{limit};
 ghost use Rattle.hb_top.specs.Outcome.{IfFault};
 
 use hb_io::Source;
 use std::alloc::Global;
+use theory_answers::verdict::LIMIT;
 use thiserror::Error;
-
-/// The most bytes of a text.
-pub(crate) const LIMIT: usize = 1_048_576;
 
 /// Why an input wasn't read.
 #[derive(Debug, Drop, Error)]

@@ -3,7 +3,6 @@
 
 mod base;
 mod input;
-mod output;
 mod top;
 
 pub use top::{Status, hbnf};

@@ -1,4 +1,4 @@
-//! `hbnf`: reads a theory text from standard input, and writes its definitions and theorems to standard output.
+//! `hbnf`: reads a theory text from standard input, and writes its definitions and theorems, or its proof log, to standard output.
 #![tactic(auto)]
 
 use hb_io::{StdSink, StdSource};

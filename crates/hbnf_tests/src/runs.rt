@@ -100,13 +100,14 @@ static DONE: [(&str, &str); 14] = [
 ];
 
 // Texts that define a name that isn't free, or have a type variable that is reserved.
-static NO_NAMES: [&[u8]; 11] = [
+static NO_NAMES: [&[u8]; 12] = [
     b"define T : bool = F;",
     b"define one_one : bool = F;",
     b"define pair : bool = F;",
     b"define unit : bool = F;",
     b"define id : 'a -> 'a = \\y:'a. y;",
     b"define x1 : bool = T;",
+    b"define 0 : bool = T;",
     b"define plugin : bool = T;",
     b"define where : bool = T;",
     b"define a.b : bool = T;",
@@ -384,12 +385,15 @@ fn reads_and_writes_fail(rt: HostRuntime) -> Result<(), Fail> {
 }
 
 // Words that are no mode's.
-static USAGE: [&[&str]; 12] = [
+static USAGE: [&[&str]; 15] = [
     &[],
     &["hbnf"],
     &["hbnf", "what"],
     &["hbnf", "bench"],
+    &["hbnf", "replay"],
     &["hbnf", "check", "check"],
+    &["hbnf", "log", "check"],
+    &["hbnf", "--log"],
     &["hbnf", "--help"],
     &["hbnf", "-h"],
     &["hbnf", "check", "--seed", "1"],

@@ -1,13 +1,16 @@
 -- A command with one positional takes exactly the words of one mode.
-use Rattle.std.proofs.Common.{◌≡◌, ◌⊎◌, inl, inr, refl, sym, ap, ◌∙◌, subst, ℕ, ◌==◌, Bool, true, false, cond, List, [], ◌∷◌, Option, Some, None, Result, Ok, Err, IfOk, IfErr, map, eqb-true}
+use Rattle.std.proofs.Common.{◌≡◌, ◌≢◌, ◌⊎◌, inl, inr, refl, sym, ap, ◌∙◌, subst, ℕ, ◌==◌, Bool, true, false, cond, List, [], ◌∷◌, Option, Some, None, Result, Ok, Err, IfOk, IfErr, map, eqb-true}
 use Rattle.std.specs.Prelude.{◌||◌, bytes_eq, codes, slice_get, fold, is_some}
 use Rattle.std.specs.List.{list_any}
 use Rattle.std.specs.Str.{chars}
 use Rattle.std.specs.Borrow.{Bor}
 use Rattle.std.proofs.lemmas.Bool.{true≢false}
 use Rattle.std.proofs.lemmas.Slice.Eq.{bytes_eq-Decides}
-use Rattle.clap.specs.Walk.{Held, Rule, rule_of, Walk, idle, walked, bundle_met, settled, finished, nothing_held}
-use Rattle.clap.specs.Simple.{App, Shape, new_app, new_rule, with_rule, built, entered, app_of, app_of_fields}
+use Rattle.clap.specs.Walk.{Held, Rule, rule_of, first_of, Walk, idle, walked, bundle_met, settled, finished, nothing_held}
+use Rattle.clap.specs.Matches.{found_of}
+use Rattle.clap.specs.declared.parser.matches.ArgMatches.{ArgMatches}
+use Rattle.clap.proofs.WalkLemmas.{first_value-rows}
+use Rattle.clap.specs.Simple.{App, HasMatchesOf, matches_of, is_simple as is_simple_app, Shape, new_app, new_rule, with_rule, built, entered, app_of, app_of_fields}
 use Rattle.clap.specs.Values.{refused_kind, same_text, kind_of}
 use Rattle.clap.specs.Kinds.{Kinds, or_else, FailsBy}
 use Rattle.clap.specs.Faults.{walk_fault, flags_fault, settle_fault, defaults_fault, check_fault, entered_fault, fault_of, is_simple_and_free}
@@ -22,7 +25,8 @@ use Rattle.clap.specs.declared.builder.value_parser.ValueParser.TheVariants.{Nam
 use Rattle.clap.specs.declared.error.Error.{Error}
 use Rattle.clap.specs.declared.error.kind.ErrorKind.TheVariants as kind
 use Rattle.clap.proofs.OnLiterals.{clap_on_literals}
-use Rattle.program_words.specs.Words.{Word, begins_with_minus, modes, with_mode, is_one, is_check}
+use Rattle.program_words.specs.declared.Mode.TheVariants.{Check, Log}
+use Rattle.program_words.specs.Words.{Word, begins_with_minus, modes, with_mode, mode_named, only_mode, mode_of, HasMode}
 
 -- the command: no help flag, and one positional with a test of its values
 abbrev pub mode_rule : ValueParser → Rule
@@ -39,17 +43,51 @@ is_simple p = refl
 
 -- ---- words that are taken
 
-check_taken : (p : ValueParser) (program : Word) → accepts false p (codes "check") ≡ true → takes (app p) (program ∷ codes "check" ∷ []) ≡ true
-unfolding clap_on_literals walked
-check_taken p program a = rw a refl
+-- a word that is a mode's name
+abbrev pub IsMode : Word → Type 0
+IsMode m = (m ≡ codes "check") ⊎ (m ≡ codes "log")
 
-behind_taken : (p : ValueParser) (program : Word) → accepts false p (codes "check") ≡ true → takes (app p) (program ∷ codes "--" ∷ codes "check" ∷ []) ≡ true
+check_alone : (p : ValueParser) (program : Word) → accepts false p (codes "check") ≡ true → takes (app p) (program ∷ codes "check" ∷ []) ≡ true
 unfolding clap_on_literals walked
-behind_taken p program a = rw a refl
+check_alone p program a = rw a refl
 
-before_taken : (p : ValueParser) (program : Word) → accepts false p (codes "check") ≡ true → takes (app p) (program ∷ codes "check" ∷ codes "--" ∷ []) ≡ true
+check_behind : (p : ValueParser) (program : Word) → accepts false p (codes "check") ≡ true → takes (app p) (program ∷ codes "--" ∷ codes "check" ∷ []) ≡ true
 unfolding clap_on_literals walked
-before_taken p program a = rw a refl
+check_behind p program a = rw a refl
+
+check_before : (p : ValueParser) (program : Word) → accepts false p (codes "check") ≡ true → takes (app p) (program ∷ codes "check" ∷ codes "--" ∷ []) ≡ true
+unfolding clap_on_literals walked
+check_before p program a = rw a refl
+
+log_alone : (p : ValueParser) (program : Word) → accepts false p (codes "log") ≡ true → takes (app p) (program ∷ codes "log" ∷ []) ≡ true
+unfolding clap_on_literals walked
+log_alone p program a = rw a refl
+
+log_behind : (p : ValueParser) (program : Word) → accepts false p (codes "log") ≡ true → takes (app p) (program ∷ codes "--" ∷ codes "log" ∷ []) ≡ true
+unfolding clap_on_literals walked
+log_behind p program a = rw a refl
+
+log_before : (p : ValueParser) (program : Word) → accepts false p (codes "log") ≡ true → takes (app p) (program ∷ codes "log" ∷ codes "--" ∷ []) ≡ true
+unfolding clap_on_literals walked
+log_before p program a = rw a refl
+
+-- the parser takes the names of the modes, and nothing else
+pub record IsModeParser (p : ValueParser) : Type 0 where
+  pub takes_check : accepts false p (codes "check") ≡ true
+  pub takes_log : accepts false p (codes "log") ≡ true
+  pub takes_no_other : (t : Word) → accepts false p t ≡ true → IsMode t
+
+alone_taken : (p : ValueParser) (program m : Word) → IsModeParser p → IsMode m → takes (app p) (program ∷ m ∷ []) ≡ true
+alone_taken p program m k (inl e) = subst (λ (x : Word). takes (app p) (program ∷ x ∷ []) ≡ true) (sym e) (check_alone p program k.takes_check)
+alone_taken p program m k (inr e) = subst (λ (x : Word). takes (app p) (program ∷ x ∷ []) ≡ true) (sym e) (log_alone p program k.takes_log)
+
+behind_taken : (p : ValueParser) (program m : Word) → IsModeParser p → IsMode m → takes (app p) (program ∷ codes "--" ∷ m ∷ []) ≡ true
+behind_taken p program m k (inl e) = subst (λ (x : Word). takes (app p) (program ∷ codes "--" ∷ x ∷ []) ≡ true) (sym e) (check_behind p program k.takes_check)
+behind_taken p program m k (inr e) = subst (λ (x : Word). takes (app p) (program ∷ codes "--" ∷ x ∷ []) ≡ true) (sym e) (log_behind p program k.takes_log)
+
+before_taken : (p : ValueParser) (program m : Word) → IsModeParser p → IsMode m → takes (app p) (program ∷ m ∷ codes "--" ∷ []) ≡ true
+before_taken p program m k (inl e) = subst (λ (x : Word). takes (app p) (program ∷ x ∷ codes "--" ∷ []) ≡ true) (sym e) (check_before p program k.takes_check)
+before_taken p program m k (inr e) = subst (λ (x : Word). takes (app p) (program ∷ x ∷ codes "--" ∷ []) ≡ true) (sym e) (log_before p program k.takes_log)
 
 -- ---- words that are refused
 
@@ -175,7 +213,7 @@ other_first p (c ∷ cs) ws n = at (c == 45) refl cs n
 -- what words without a fault are
 data Came (p : ValueParser) (ws : List Word) : Type 0 where
   nothing : (t : Bool) → walk_by p (at_first false) ws ≡ at_first t → Came p ws
-  one : (t : Bool) (m : Word) → walk_by p (at_first false) ws ≡ at_second t m → (m ≡ codes "check" → is_one (modes ws) ≡ true) → Came p ws
+  one : (t : Bool) (m : Word) → walk_by p (at_first false) ws ≡ at_second t m → (IsMode m → modes ws ≡ Some (m ∷ [])) → Came p ws
 
 end_second : (p : ValueParser) (m : Word) (ws : List Word) → fault_from p (at_second true m) ws ≡ [] → ws ≡ []
 end_second p m [] e = refl
@@ -210,14 +248,22 @@ came_trailing p [] e = nothing true (dashes_first p []).1
 came_trailing p (m ∷ ws) e =
     let none : ws ≡ [] = end_second p m ws (sym (trailing_first p m ws).0 ∙ e) in
     subst (λ (vs : List Word). Came p (minus_twice ∷ m ∷ vs)) (sym none)
-    (one true m (ap (λ (w : Walk). walked (top p).rules [] w m) (dashes_first p (m ∷ [])).1 ∙ (trailing_first p m []).1) (λ c. ap (λ (x : Word). is_one (modes (minus_twice ∷ x ∷ []))) c))
+    (one true m (ap (λ (w : Walk). walked (top p).rules [] w m) (dashes_first p (m ∷ [])).1 ∙ (trailing_first p m []).1) (λ c. refl))
+
+mode_alone : (m : Word) → IsMode m → modes (m ∷ []) ≡ Some (m ∷ [])
+mode_alone m (inl e) = subst (λ (x : Word). modes (x ∷ []) ≡ Some (x ∷ [])) (sym e) refl
+mode_alone m (inr e) = subst (λ (x : Word). modes (x ∷ []) ≡ Some (x ∷ [])) (sym e) refl
+
+mode_before : (m : Word) → IsMode m → modes (m ∷ minus_twice ∷ []) ≡ Some (m ∷ [])
+mode_before m (inl e) = subst (λ (x : Word). modes (x ∷ minus_twice ∷ []) ≡ Some (x ∷ [])) (sym e) refl
+mode_before m (inr e) = subst (λ (x : Word). modes (x ∷ minus_twice ∷ []) ≡ Some (x ∷ [])) (sym e) refl
 
 -- a mode, and what stands behind it
 came_mode : (p : ValueParser) (m : Word) (ws : List Word) → walked (top p).rules [] (at_first false) m ≡ at_second false m → fault_from p (at_second false m) ws ≡ [] → Came p (m ∷ ws)
-came_mode p m [] t e = one false m t (λ c. ap (λ (x : Word). is_one (modes (x ∷ []))) c)
+came_mode p m [] t e = one false m t (λ c. mode_alone m c)
 came_mode p m (w ∷ ws) t e =
     subst (λ (vs : List Word). Came p (m ∷ vs)) (sym (behind_second p m w ws e))
-    (one true m (ap (λ (x : Walk). walked (top p).rules [] x minus_twice) t ∙ (dashes_second p m []).1) (λ c. ap (λ (x : Word). is_one (modes (x ∷ minus_twice ∷ []))) c))
+    (one true m (ap (λ (x : Walk). walked (top p).rules [] x minus_twice) t ∙ (dashes_second p m []).1) (λ c. mode_before m c))
 
 met : (p : ValueParser) (w : Word) (ws : List Word) → Met p w ws → fault_from p (at_first false) (w ∷ ws) ≡ [] → Came p (w ∷ ws)
 met p w ws (refused r) e = absurd (not_none (sym r ∙ e))
@@ -261,20 +307,37 @@ no_words : (p : ValueParser) → fault_of (app p) [] ≡ kind.MissingRequiredArg
 unfolding defaults_fault walk_fault
 no_words p = refl
 
+-- what a walk leaves behind a mode
+found_second : (p : ValueParser) (t : Bool) (m : Word) → first_of (codes "mode") (finished (top p).rules (at_second t m).held) ≡ Some m
+found_second p t m = refl
+
+matches_are : (p : ValueParser) (program : Word) (ws : List Word) → matches_of (app p) (program ∷ ws) ≡ finished (top p).rules (walk_by p (at_first false) ws).held
+matches_are p program ws = refl
+
+-- the mode that words without a fault come to
+record IsFound (p : ValueParser) (words : List Word) : Type 0 where
+  word : Word
+  found : first_of (codes "mode") (matches_of (app p) words) ≡ Some word
+  mode : mode_of words ≡ mode_named word
+
 -- a parse without a fault
-pub passes_check : (p : ValueParser) → ((t : Word) → accepts false p t ≡ true → t ≡ codes "check") → (words : List Word) → fault_of (app p) words ≡ [] → is_check words ≡ true
-passes_check p h [] e = (let f : kind.MissingRequiredArgument ∷ [] ≡ [] = sym (no_words p) ∙ e in absurd cc)
-passes_check p h (program ∷ ws) e =
+passes_found : (p : ValueParser) → IsModeParser p → (words : List Word) → fault_of (app p) words ≡ [] → IsFound p words
+passes_found p h [] e = (let f : kind.MissingRequiredArgument ∷ [] ≡ [] = sym (no_words p) ∙ e in absurd cc)
+passes_found p h (program ∷ ws) e =
     let q = front_none (fault_from p (at_first false) ws) (end_fault p (walk_by p (at_first false) ws)) (sym (parse_is p program ws) ∙ e) in
     at (came p ws q.0) q.1
   where
-    mode : (t : Bool) (m : Word) → (m ≡ codes "check" → is_one (modes ws) ≡ true) → end_fault p (at_second t m) ≡ [] → (b : Bool) → accepts false p m ≡ b → is_one (modes ws) ≡ true
-    mode t m c f true a = c (h m a)
-    mode t m c f false a = (let g : refused_kind p ∷ [] ≡ [] = sym (other_mode p t m a) ∙ f in absurd cc)
+    mode : (t : Bool) (m : Word) → walk_by p (at_first false) ws ≡ at_second t m → (IsMode m → modes ws ≡ Some (m ∷ [])) → end_fault p (at_second t m) ≡ [] → (b : Bool) → accepts false p m ≡ b → IsFound p (program ∷ ws)
+    mode t m w c f true a = record {
+      word = m;
+      found = ap (first_of (codes "mode")) (matches_are p program ws) ∙ ap (λ (x : Walk). first_of (codes "mode") (finished (top p).rules x.held)) w ∙ found_second p t m;
+      mode = ap only_mode (c (h.takes_no_other m a));
+    }
+    mode t m w c f false a = (let g : refused_kind p ∷ [] ≡ [] = sym (other_mode p t m a) ∙ f in absurd cc)
 
-    at : Came p ws → end_fault p (walk_by p (at_first false) ws) ≡ [] → is_one (modes ws) ≡ true
+    at : Came p ws → end_fault p (walk_by p (at_first false) ws) ≡ [] → IsFound p (program ∷ ws)
     at (nothing t w) f = (let g : kind.MissingRequiredArgument ∷ [] ≡ [] = sym (no_mode p t) ∙ ap (end_fault p) (sym w) ∙ f in absurd cc)
-    at (one t m w c) f = mode t m c (ap (end_fault p) (sym w) ∙ f) (accepts false p m) refl
+    at (one t m w c) f = mode t m w c (ap (end_fault p) (sym w) ∙ f) (accepts false p m) refl
 
 -- ---- accepted words
 
@@ -291,32 +354,38 @@ no_modes (w ∷ ws) e = at (bytes_eq w minus_twice) (begins_with_minus w) refl (
     at false false q None f = absurd cc
     at false false q (Some vs) f = (let g : w ∷ vs ≡ [] = same_some (w ∷ vs) [] f in absurd cc)
 
-one_is : (vs : List Word) → is_one (Some vs) ≡ true → vs ≡ codes "check" ∷ []
-one_is [] e = absurd cc
-one_is (m ∷ []) e = ap (λ (x : Word). x ∷ []) ((bytes_eq-Decides m (codes "check")).0 e)
-one_is (m ∷ n ∷ ms) e = absurd cc
+named_is : (m : Word) → mode_named m ≢ None → IsMode m
+named_is m n = at (bytes_eq m (codes "check")) refl (bytes_eq m (codes "log")) refl n
+  where
+    at : (b : Bool) → bytes_eq m (codes "check") ≡ b → (d : Bool) → bytes_eq m (codes "log") ≡ d → cond b (Some Check) (cond d (Some Log) None) ≢ None → IsMode m
+    at true q d r k = inl ((bytes_eq-Decides m (codes "check")).0 q)
+    at false q true r k = inr ((bytes_eq-Decides m (codes "log")).0 r)
+    at false q false r k = absurd (k refl)
+
+one_is : (vs : List Word) → only_mode (Some vs) ≢ None → (m : Word) × (vs ≡ m ∷ []) × IsMode m
+one_is [] n = absurd (n refl)
+one_is (m ∷ []) n = (m, refl, named_is m n)
+one_is (m ∷ k ∷ ms) n = absurd (n refl)
 
 -- the words of one mode pass
-pub check_passes : (p : ValueParser) → accepts false p (codes "check") ≡ true → (words : List Word) → is_check words ≡ true → takes (app p) words ≡ true
-check_passes p a [] e = absurd cc
-check_passes p a (program ∷ []) e = absurd cc
-check_passes p a (program ∷ w ∷ ws) e = at (bytes_eq w minus_twice) (begins_with_minus w) refl (modes ws) refl e
+pub mode_passes : (p : ValueParser) → IsModeParser p → (words : List Word) → mode_of words ≢ None → takes (app p) words ≡ true
+mode_passes p a [] n = absurd (n refl)
+mode_passes p a (program ∷ []) n = absurd (n refl)
+mode_passes p a (program ∷ w ∷ ws) n = at (bytes_eq w minus_twice) (begins_with_minus w) refl (modes ws) refl n
   where
-    behind : (vs : List Word) → (vs ≡ []) ⊎ (vs ≡ minus_twice ∷ []) → takes (app p) (program ∷ codes "check" ∷ vs) ≡ true
-    behind vs (inl n) = subst (λ (x : List Word). takes (app p) (program ∷ codes "check" ∷ x) ≡ true) (sym n) (check_taken p program a)
-    behind vs (inr n) = subst (λ (x : List Word). takes (app p) (program ∷ codes "check" ∷ x) ≡ true) (sym n) (before_taken p program a)
+    behind : IsMode w → (vs : List Word) → (vs ≡ []) ⊎ (vs ≡ minus_twice ∷ []) → takes (app p) (program ∷ w ∷ vs) ≡ true
+    behind k vs (inl e) = subst (λ (x : List Word). takes (app p) (program ∷ w ∷ x) ≡ true) (sym e) (alone_taken p program w a k)
+    behind k vs (inr e) = subst (λ (x : List Word). takes (app p) (program ∷ w ∷ x) ≡ true) (sym e) (before_taken p program w a k)
 
-    at : (b d : Bool) → bytes_eq w minus_twice ≡ b → (o : Option (List Word)) → modes ws ≡ o → is_one (cond b (Some ws) (cond d None (with_mode w o))) ≡ true → takes (app p) (program ∷ w ∷ ws) ≡ true
+    at : (b d : Bool) → bytes_eq w minus_twice ≡ b → (o : Option (List Word)) → modes ws ≡ o → only_mode (cond b (Some ws) (cond d None (with_mode w o))) ≢ None → takes (app p) (program ∷ w ∷ ws) ≡ true
     at true d q o m f =
         (let same : w ≡ minus_twice = (bytes_eq-Decides w minus_twice).0 q in
-        let one : ws ≡ codes "check" ∷ [] = one_is ws f in
-        subst (λ (x : List Word). takes (app p) (program ∷ x) ≡ true) (sym (λ i. same i ∷ one i)) (behind_taken p program a))
-    at false true q o m f = absurd cc
-    at false false q None m f = absurd cc
-    at false false q (Some []) m f =
-        (let same : w ≡ codes "check" = (bytes_eq-Decides w (codes "check")).0 f in
-        subst (λ (x : Word). takes (app p) (program ∷ x ∷ ws) ≡ true) (sym same) (behind ws (no_modes ws m)))
-    at false false q (Some (v ∷ vs)) m f = absurd cc
+        let one = one_is ws f in
+        subst (λ (x : List Word). takes (app p) (program ∷ x) ≡ true) (sym (λ i. same i ∷ one.1 i)) (behind_taken p program one.0 a one.2))
+    at false true q o m f = absurd (f refl)
+    at false false q None m f = absurd (f refl)
+    at false false q (Some []) m f = behind (named_is w f) ws (no_modes ws m)
+    at false false q (Some (v ∷ vs)) m f = absurd (f refl)
 
 -- ---- the command that is made
 
@@ -339,36 +408,43 @@ command_is c0 c1 c2 a q e0 e1 e2 r =
     app_with_no_help b = record b { top = record b.top { disable_help_flag = true } }
 
 -- the names that are compared with a value
-pub only_check : (n : List Word) (t : Word) → n ≡ codes "check" ∷ [] → list_any (λ m. same_text false m t) n ≡ true → t ≡ codes "check"
-only_check n t e h =
-    let one : (bytes_eq (codes "check") t || false) ≡ true = sym (ap (λ (ms : List Word). list_any (λ m. same_text false m t) ms) e) ∙ h in
-    sym ((bytes_eq-Decides (codes "check") t).0 (no_or (bytes_eq (codes "check") t) one))
+only_modes : (n : List Word) (t : Word) → n ≡ codes "check" ∷ codes "log" ∷ [] → list_any (λ m. same_text false m t) n ≡ true → IsMode t
+only_modes n t e h = at (bytes_eq (codes "check") t) refl (bytes_eq (codes "log") t) refl (sym (ap (λ (ms : List Word). list_any (λ m. same_text false m t) ms) e) ∙ h)
   where
-    no_or : (b : Bool) → (b || false) ≡ true → b ≡ true
-    no_or true k = refl
-    no_or false k = k
+    at : (b : Bool) → bytes_eq (codes "check") t ≡ b → (d : Bool) → bytes_eq (codes "log") t ≡ d → (b || (d || false)) ≡ true → IsMode t
+    at true q d r k = inl (sym ((bytes_eq-Decides (codes "check") t).0 q))
+    at false q true r k = inr (sym ((bytes_eq-Decides (codes "log") t).0 r))
+    at false q false r k = absurd (true≢false (sym k))
 
 -- ---- what the parse says
 
-pub record IsCheckParser (p : ValueParser) : Type 0 where
-  pub takes_check : accepts false p (codes "check") ≡ true
-  pub takes_no_other : (t : Word) → accepts false p t ≡ true → t ≡ codes "check"
-
-pub names_parser : (n : Bor (List (Bor Word))) (p : ValueParser) → p ≡ Names n → map (λ s. s.now) n.now ≡ codes "check" ∷ [] → IsCheckParser p
-names_parser n p e k = subst IsCheckParser (sym e) (record {
+pub names_parser : (n : Bor (List (Bor Word))) (p : ValueParser) → p ≡ Names n → map (λ s. s.now) n.now ≡ codes "check" ∷ codes "log" ∷ [] → IsModeParser p
+names_parser n p e k = subst IsModeParser (sym e) (record {
   takes_check = any_is n.now (codes "check") ∙ ap (list_any (λ m. same_text false m (codes "check"))) k;
-  takes_no_other = λ t h. only_check (map (λ s. s.now) n.now) t k (sym (any_is n.now t) ∙ h);
+  takes_log = any_is n.now (codes "log") ∙ ap (list_any (λ m. same_text false m (codes "log"))) k;
+  takes_no_other = λ t h. only_modes (map (λ s. s.now) n.now) t k (sym (any_is n.now t) ∙ h);
 })
   where
     any_is : (xs : List (Bor Word)) (t : Word) → list_any (λ (name : Bor Word). same_text false name.now t) xs ≡ list_any (λ m. same_text false m t) (map (λ s. s.now) xs)
     any_is [] t = refl
     any_is (x ∷ xs) t = ap (λ (b : Bool). same_text false x.now t || b) (any_is xs t)
 
-pub parse_taken : {T : Type 0} (a : App) (p : ValueParser) (words : List Word) (r : Result T Error) → a ≡ app p → IsCheckParser p → (is_simple_and_free a ≡ true → FailsBy (fault_of a words) r) → IfOk r (λ m. is_check words ≡ true)
-parse_taken a p words (Ok m) e k f = passes_check p k.takes_no_other words (sym (ap (λ (b : App). fault_of b words) e) ∙ f (ap is_simple_and_free e ∙ is_simple p))
-parse_taken a p words (Err x) e k f = tt
+simple_app : (p : ValueParser) → is_simple_app (app p) ≡ true
+simple_app p = refl
 
-pub parse_refused : {T : Type 0} (a : App) (p : ValueParser) (words : List Word) (r : Result T Error) → a ≡ app p → IsCheckParser p → IfErr r (λ x. takes a words ≡ true → kind_of x ≡ kind.OutOfMemory)
-    → IfErr r (λ x. is_check words ≡ true → kind_of x ≡ kind.OutOfMemory)
+pub parse_taken : (a : App) (p : ValueParser) (words : List Word) (r : Result ArgMatches Error) → a ≡ app p → IsModeParser p → (is_simple_and_free a ≡ true → FailsBy (fault_of a words) r) → IfOk r (HasMatchesOf a words)
+    → IfOk r (λ m. HasMode words m)
+parse_taken a p words (Ok m) e k f g =
+    let found = passes_found p k words (sym (ap (λ (b : App). fault_of b words) e) ∙ f (ap is_simple_and_free e ∙ is_simple p)) in
+    let rows = (g (ap is_simple_app e ∙ simple_app p)).0 in
+    record {
+      word = found.word;
+      found = first_value-rows (found_of m) (codes "mode") ∙ ap (first_of (codes "mode")) (rows ∙ ap (λ (b : App). matches_of b words) e) ∙ found.found;
+      mode = found.mode;
+    }
+parse_taken a p words (Err x) e k f g = tt
+
+pub parse_refused : {T : Type 0} (a : App) (p : ValueParser) (words : List Word) (r : Result T Error) → a ≡ app p → IsModeParser p → IfErr r (λ x. takes a words ≡ true → kind_of x ≡ kind.OutOfMemory)
+    → IfErr r (λ x. mode_of words ≢ None → kind_of x ≡ kind.OutOfMemory)
 parse_refused a p words (Ok m) e k f = tt
-parse_refused a p words (Err x) e k f = λ h. f (ap (λ (b : App). takes b words) e ∙ check_passes p k.takes_check words h)
+parse_refused a p words (Err x) e k f = λ h. f (ap (λ (b : App). takes b words) e ∙ mode_passes p k words h)

@@ -1,5 +1,9 @@
 -- Which words the program takes.
-use Rattle.std.specs.Prelude.{ℕ, Bool, false, ◌==◌, List, [], ◌∷◌, if◌then◌else◌, Option, Some, None, bytes_eq, codes}
+use Rattle.std.specs.Prelude.{◌≡◌, ℕ, Bool, false, ◌==◌, List, [], ◌∷◌, if◌then◌else◌, Option, Some, None, bytes_eq, codes}
+use Rattle.clap.specs.Matches.{found_of, first_value}
+use Rattle.clap.specs.declared.parser.matches.ArgMatches.{ArgMatches}
+use Rattle.program_words.specs.declared.Mode.{Mode}
+use Rattle.program_words.specs.declared.Mode.TheVariants.{Check, Log}
 
 abbrev pub Word : Type 0
 Word = List ℕ
@@ -18,14 +22,23 @@ abbrev pub modes : List Word → Option (List Word)
 modes [] = Some []
 modes (w ∷ ws) = if bytes_eq w (codes "--") then Some ws else (if begins_with_minus w then None else with_mode w (modes ws))
 
--- there is exactly one mode, `check`
-abbrev pub is_one : Option (List Word) → Bool
-is_one None = false
-is_one (Some []) = false
-is_one (Some (m ∷ [])) = bytes_eq m (codes "check")
-is_one (Some (m ∷ n ∷ ms)) = false
+abbrev pub mode_named : Word → Option Mode
+mode_named w = if bytes_eq w (codes "check") then Some Check else (if bytes_eq w (codes "log") then Some Log else None)
+
+-- there is exactly one mode
+abbrev pub only_mode : Option (List Word) → Option Mode
+only_mode None = None
+only_mode (Some []) = None
+only_mode (Some (m ∷ [])) = mode_named m
+only_mode (Some (m ∷ n ∷ ms)) = None
 
 -- the words behind the program's name are one mode
-abbrev pub is_check : List Word → Bool
-is_check [] = false
-is_check (program ∷ words) = is_one (modes words)
+abbrev pub mode_of : List Word → Option Mode
+mode_of [] = None
+mode_of (program ∷ words) = only_mode (modes words)
+
+-- what was found is the mode of the words
+pub record HasMode (words : List Word) (m : ArgMatches) : Type 0 where
+  pub word : Word
+  pub found : first_value (found_of m) (codes "mode") ≡ Some word
+  pub mode : mode_of words ≡ mode_named word

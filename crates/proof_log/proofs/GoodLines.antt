@@ -26,9 +26,8 @@ use Rattle.hol_logs.specs.Position.{LogPosition, start_position, after, predicat
 use Rattle.hol_logs.specs.Log.{IsGood}
 use Rattle.hol_logs.proofs.Causes.{HasNoCause}
 use Rattle.proof_log.specs.Lines.{step_lines}
-use Rattle.proof_log.specs.Written.{names_segments}
 use Rattle.proof_log.proofs.Good.{Leads, leads_one, leads_by}
-use Rattle.proof_log.proofs.RuleLines.{at_number, hit_one, same_to_itself, are_base-from, IsRuleLine, rule_line}
+use Rattle.proof_log.proofs.RuleLines.{at_number, hit_one, same_to_itself, are_base-from, IsRuleLine, AreStepsTyped, rule_line}
 
 -- the position behind the first line and so many more, where a kernel's state is reached
 abbrev pub standing : State → ℕ → Bool → LogPosition
@@ -86,7 +85,7 @@ rule_after : (k : State) (count : ℕ) (b : Bool) (ds : List Def) (s : Step) (c 
     → after (standing k count b) (line_step r.step) ≡ standing (record { defs = k.defs; steps = k.steps ++ c ∷ [] }) (suc count) b
 rule_after k count b ds s c r = λ i. record { defs = append-nil k.defs i; steps = k.steps ++ option_to_list (r.gives i); lines = suc (suc count); is_based = or_false b i; is_over = false }
 
-pub step_leads : (n : ℕ) (k : State) (count : ℕ) (b : Bool) (ds : List Def) (s : Step) (c : Sequent) → IsStep k s c → names_segments s ≡ true
+pub step_leads : (n : ℕ) (k : State) (count : ℕ) (b : Bool) (ds : List Def) (s : Step) (c : Sequent) → IsStep k s c → AreStepsTyped k
     → Leads n (standing k count b) (step_lines ds s) (standing (record { defs = k.defs; steps = k.steps ++ c ∷ [] }) (suc count) b)
 step_leads n k count b ds s c h g =
     let r = rule_line ds k s c h g in

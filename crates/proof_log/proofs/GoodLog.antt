@@ -20,7 +20,7 @@ use Rattle.proof_log.specs.declared.marks.End.{End}
 use Rattle.proof_log.specs.declared.marks.End.TheVariants.{Done, Stop}
 use Rattle.proof_log.specs.Lines.{end_line}
 use Rattle.proof_log.specs.Marks.{IsPlace, IsFitEnd, AreFitFrom, AreFit}
-use Rattle.proof_log.specs.Written.{steps_from, body, log_of, text_of, said_by, report_text, name_segments}
+use Rattle.proof_log.specs.Written.{steps_from, body, log_of, text_of, said_by, report_text}
 use Rattle.proof_log.proofs.Good.{after_all, AllGood, Leads, leads_append, leads_to, lines_counted, reads_on}
 use Rattle.proof_log.proofs.GoodLines.{standing, over, first_leads, end_leads, stop_leads}
 use Rattle.proof_log.proofs.Fronts.{whole_front}
@@ -79,13 +79,13 @@ end_leads_over n k count m (Stop test name place) e h = stop_leads n k count m (
 reached : (a b : ℕ) → a ≤ b → nat_lt a (suc b) ≡ true
 reached a b h = grind (arith, nat_tests)
 
-pub good_with : (n : ℕ) (ds : List Def) (ss : List Step) (k : State) (first : Mark) (others : List Mark) (end : End) → IsRun ds ss k → name_segments ss ≡ true → AreFitFrom n k first others end
+pub good_with : (n : ℕ) (ds : List Def) (ss : List Step) (k : State) (first : Mark) (others : List Mark) (end : End) → IsRun ds ss k → AreFitFrom n k first others end
     → IsGoodLog n (text_of (log_of k ds ss (first ∷ others) end)) (report_text (log_of k ds ss (first ∷ others) end))
-good_with n ds ss k first others end r names fit =
+good_with n ds ss k first others end r fit =
     let marks = first ∷ others in
     let place : IsPlace ss first.at = All-head (λ m. IsPlace ss m.at) first others (fit.placed ds ss r) in
     let given : AreGiven n k ss first others = record { based = fit.based; said = fit.said; later = all_later first.at first.at others (omega arith) fit.ordered; placed = fit.placed ds ss r; exact = fit.exact ds ss r } in
-    let run = reaches n k ds ss first others ds ss k given (whole_front ds ss k) names r in
+    let run = reaches n k ds ss first others ds ss k given (whole_front ds ss k) r in
     let b = nat_lt first.at (suc (length ss)) in
     let lines = body k ds ss marks in
     let front : Leads n start_position lines (standing k run.total b) = leads_append n start_position (standing nothing 0 false) (standing k run.total b) (line_first ∷ []) (steps_from k ds marks 0 ss) (first_leads n) run.leads in
@@ -97,7 +97,7 @@ good_with n ds ss k first others end r names fit =
     counts : (a m c : ℕ) → a ≡ 0 + m → a ≡ c → m ≡ c
     counts a m c e f = omega arith
 
-pub good : (n : ℕ) (ds : List Def) (ss : List Step) (k : State) (marks : List Mark) (end : End) → IsRun ds ss k → name_segments ss ≡ true → AreFit n k marks end
+pub good : (n : ℕ) (ds : List Def) (ss : List Step) (k : State) (marks : List Mark) (end : End) → IsRun ds ss k → AreFit n k marks end
     → IsGoodLog n (text_of (log_of k ds ss marks end)) (report_text (log_of k ds ss marks end))
-good n ds ss k [] end r names fit = absurd fit
-good n ds ss k (first ∷ others) end r names fit = good_with n ds ss k first others end r names fit
+good n ds ss k [] end r fit = absurd fit
+good n ds ss k (first ∷ others) end r fit = good_with n ds ss k first others end r fit

@@ -1,5 +1,7 @@
 pub mod Numbers
 pub mod Good
+pub mod SegmentChars
+pub mod TypePairs
 pub mod RuleLines
 pub mod GoodLines
 pub mod Fronts
@@ -12,3 +14,5 @@ pub mod Texts
 pub mod Marked
 pub mod Writing
 pub mod WholeLog
+pub mod FitMarks
+pub mod Reports

@@ -7,11 +7,11 @@ use Rattle.std.proofs.lemmas.Option.{slice_get_within}
 use Rattle.std.proofs.lemmas.Slice.Eq.{bytes_eq-Decides}
 use Rattle.hol_terms.specs.Ty.{ty_var}
 use Rattle.hol_terms.specs.Tm.{tm_index}
-use Rattle.hol_terms.specs.Subst.{TySubst, ty_pairs}
+use Rattle.hol_terms.specs.Subst.{ty_pairs}
 use Rattle.hol_terms.specs.Binding.{VarSubst}
 use Rattle.hol_terms.specs.Definition.{Definition, const_def, type_def, signature_of}
-use Rattle.hol_terms.specs.Sequent.{Sequent, seq}
-use Rattle.hol_terms.specs.Rules.{same, both, some_pair, are_distinct_types, are_distinct_vars, keeps_types, trans_rule, comb_rule, abs_rule, eq_mp_rule, deduct_rule, inst_type_rule, inst_rule}
+use Rattle.hol_terms.specs.Sequent.{Sequent, seq, IsTyped}
+use Rattle.hol_terms.specs.Rules.{same, both, some_pair, are_distinct_vars, keeps_types, trans_rule, comb_rule, abs_rule, eq_mp_rule, deduct_rule, inst_type_rule, inst_rule}
 use Rattle.hol_terms.specs.Base.{base, base_definitions}
 use Rattle.hol_terms.specs.Proves.{IsPrefix}
 use Rattle.hol_terms.specs.declared.defs.Def.{Def}
@@ -24,8 +24,8 @@ use Rattle.hol_kernel.proofs.Guards.{premise, passed, both_parts}
 use Rattle.hol_logs.specs.Step.{LogStep, step_refl, step_trans, step_comb, step_abs, step_beta, step_assume, step_mp, step_deduct, step_inst_type, step_inst, step_axiom, IsStepOver, premises, sequent_at, same_definition, are_base, axiom_of, if_connectives, step_gives}
 use Rattle.hol_logs.specs.Line.{line_step}
 use Rattle.log_laws.proofs.StepsProve.{miss}
-use Rattle.proof_log.specs.Lines.{step_lines}
-use Rattle.proof_log.specs.Written.{names_segments}
+use Rattle.proof_log.specs.Lines.{step_lines, written_pairs}
+use Rattle.proof_log.proofs.TypePairs.{some_written, all_segments, over_written, inst_type_written}
 
 -- ---- premises
 
@@ -86,13 +86,14 @@ one_premise steps i rule c e =
     let p = premise (slice_get steps i) rule c e in
     (ap rule (at_number steps i p.0 p.1) ∙ p.2, hit_one steps i p.0 p.1)
 
-some_types : (s : TySubst) (a c : Sequent) → inst_type_rule s a ≡ Some c → some_pair s ≡ true
-some_types s a c e = (both_parts (some_pair s) (are_distinct_types s) (passed (both (some_pair s) (are_distinct_types s)) _ c e).0).0
-
 some_terms : (s : VarSubst) (a c : Sequent) → inst_rule s a ≡ Some c → some_pair s ≡ true
 some_terms s a c e = (both_parts (some_pair s) (both (are_distinct_vars s) (keeps_types s)) (passed (both (some_pair s) (both (are_distinct_vars s) (keeps_types s))) _ c e).0).0
 
-pub rule_line : (ds : List Def) (k : State) (s : Step) (c : Sequent) → IsStep k s c → names_segments s ≡ true → IsRuleLine ds k s c
+-- the sequents of the steps so far are well typed
+abbrev pub AreStepsTyped : State → Type 0
+AreStepsTyped k = (i : ℕ) (a : Sequent) → slice_get k.steps i ≡ Some a → IsTyped (signature_of k.defs) a
+
+pub rule_line : (ds : List Def) (k : State) (s : Step) (c : Sequent) → IsStep k s c → AreStepsTyped k → IsRuleLine ds k s c
 rule_line ds k (Refl t) c h g = record { step = step_refl t; lines = refl; gives = h.gives; over = h.over; present = refl }
 rule_line ds k (Trans i j) c h g = let p = two_premises k.steps i j trans_rule c h.gives in record { step = step_trans i j; lines = refl; gives = p.0; over = tt; present = p.1 }
 rule_line ds k (Comb i j) c h g = let p = two_premises k.steps i j comb_rule c h.gives in record { step = step_comb i j; lines = refl; gives = p.0; over = tt; present = p.1 }
@@ -102,8 +103,15 @@ rule_line ds k (Assume p) c h g = record { step = step_assume p; lines = refl; g
 rule_line ds k (Mp i j) c h g = let p = two_premises k.steps i j eq_mp_rule c h.gives in record { step = step_mp i j; lines = refl; gives = p.0; over = tt; present = p.1 }
 rule_line ds k (Deduct i j) c h g = let p = two_premises k.steps i j deduct_rule c h.gives in record { step = step_deduct i j; lines = refl; gives = p.0; over = tt; present = p.1 }
 rule_line ds k (InstType i s) c h g =
-    let p = one_premise k.steps i (inst_type_rule (ty_pairs s.items)) c h.gives in
-    record { step = step_inst_type i (ty_pairs s.items); lines = refl; gives = p.0; over = (some_types (ty_pairs s.items) (sequent_at k.steps i) c p.0, g, h.over); present = p.1 }
+    let ps = ty_pairs s.items in
+    let p = premise (slice_get k.steps i) (inst_type_rule ps) c h.gives in
+    record {
+      step = step_inst_type i (written_pairs ps);
+      lines = refl;
+      gives = ap (inst_type_rule (written_pairs ps)) (at_number k.steps i p.0 p.1) ∙ inst_type_written (signature_of k.defs) ps p.0 c (g i p.0 p.1) p.2;
+      over = (some_written ps, all_segments ps, over_written (signature_of k.defs) ps h.over);
+      present = hit_one k.steps i p.0 p.1;
+    }
 rule_line ds k (Inst i s) c h g =
     let p = one_premise k.steps i (inst_rule s.items) c h.gives in
     record { step = step_inst i s.items; lines = refl; gives = p.0; over = (some_terms s.items (sequent_at k.steps i) c p.0, h.over); present = p.1 }

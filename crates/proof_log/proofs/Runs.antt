@@ -1,11 +1,9 @@
 -- The steps of a run, with the marks among them, lead from the first line to the run's state.
-use Rattle.std.proofs.Common.{◌≡◌, ℕ, suc, ◌+◌, ◌≤◌, true, false, List, [], ◌∷◌, ◌++◌, length, take, sym, ap, ◌∙◌, subst, append_assoc, append-nil, arith, slice_get, string_bytes, nat_lt}
+use Rattle.std.proofs.Common.{◌≡◌, ℕ, suc, ◌+◌, ◌≤◌, false, List, [], ◌∷◌, ◌++◌, length, take, sym, ap, ◌∙◌, subst, append_assoc, append-nil, arith, slice_get, string_bytes, nat_lt}
 use Rattle.std.specs.Prelude.{All}
-use Rattle.std.proofs.lemmas.Bool.{and_parts}
 use Rattle.std.proofs.lemmas.Bool.Decides.{nat_tests}
 use Rattle.std.proofs.lemmas.List.{length-append}
 use Rattle.std.proofs.lemmas.List.Elements.{All-head}
-use Rattle.std.proofs.lemmas.List.Folds.{list_all-append}
 use Rattle.hol_terms.specs.Typing.{tm_type}
 use Rattle.hol_terms.specs.TyVars.{own_const}
 use Rattle.hol_terms.specs.Definition.{const_def, type_def}
@@ -14,17 +12,20 @@ use Rattle.hol_terms.specs.Base.{base}
 use Rattle.hol_terms.specs.Proves.{abs_rep, rep_abs}
 use Rattle.hol_terms.specs.declared.defs.Def.{Def}
 use Rattle.hol_terms.specs.declared.defs.Def.TheVariants as def
+use Rattle.hol_terms.proofs.Weaken.{Proves-typed}
 use Rattle.hol_kernel.specs.State.{State}
 use Rattle.hol_kernel.specs.Run.{IsRun, run_start, run_rule, run_const, run_type}
 use Rattle.hol_kernel.specs.declared.step.Step.{Step}
 use Rattle.hol_kernel.specs.declared.step.Step.TheVariants.{Const, TypeAbs, TypeRep}
+use Rattle.hol_kernel.proofs.Calculus.{run_derives}
 use Rattle.hol_logs.specs.Line.{line_const, line_type}
 use Rattle.proof_log.specs.declared.marks.Mark.{Mark}
 use Rattle.proof_log.specs.declared.marks.MarkKind.TheVariants.{Base}
 use Rattle.proof_log.specs.Lines.{definition_lines, step_lines}
 use Rattle.proof_log.specs.Marks.{IsPlace, IsFitMark, made_by}
-use Rattle.proof_log.specs.Written.{marks_at, steps_from, names_segments, name_segments}
+use Rattle.proof_log.specs.Written.{marks_at, steps_from}
 use Rattle.proof_log.proofs.Good.{Leads, leads_append, leads_by}
+use Rattle.proof_log.proofs.RuleLines.{AreStepsTyped}
 use Rattle.proof_log.proofs.GoodLines.{standing, step_leads, const_leads, type_leads}
 use Rattle.proof_log.proofs.Fronts.{steps_more, run_counts, IsFront, earlier, earlier_step, last_def}
 use Rattle.proof_log.proofs.Places.{base_there, next_there, not_between, none_between}
@@ -115,8 +116,9 @@ reach_more n K DS first others ss ts s k j lines same before step marks =
 
 -- ---- each step
 
-segments_front : (ss ts : List Step) → name_segments (ss ++ ts) ≡ true → (name_segments ss ≡ true) × (name_segments ts ≡ true)
-segments_front ss ts h = and_parts (name_segments ss) (name_segments ts) (sym (list_all-append names_segments ss ts) ∙ h)
+-- what a run's steps give is derivable, so well typed
+pub typed : (ds : List Def) (ss : List Step) (k : State) → IsRun ds ss k → AreStepsTyped k
+typed ds ss k r = λ i a e. Proves-typed (run_derives ds ss k i a r e).proof
 
 same_place : (first : Mark) (ss : List Step) (s : Step) → nat_lt first.at (length (ss ++ s ∷ [])) ≡ nat_lt first.at (suc (length ss))
 same_place first ss s = ap (nat_lt first.at) (one_longer ss s)
@@ -124,25 +126,23 @@ same_place first ss s = ap (nat_lt first.at) (one_longer ss s)
 behind_both : (SS ss more : List Step) (i at : ℕ) → SS ≡ (ss ++ TypeAbs i ∷ TypeRep i ∷ []) ++ more → IsPlace SS at → nat_lt at (length (ss ++ TypeAbs i ∷ TypeRep i ∷ [])) ≡ nat_lt at (suc (length ss))
 behind_both SS ss more i at e h = ap (nat_lt at) (two_longer ss (TypeAbs i) (TypeRep i)) ∙ passes at (suc (length ss)) (not_between SS ss more i at e h)
 
-pub reaches : (n : ℕ) (K : State) (DS : List Def) (SS : List Step) (first : Mark) (others : List Mark) (ds : List Def) (ss : List Step) (k : State) → AreGiven n K SS first others → IsFront DS SS K ds ss k → name_segments ss ≡ true → IsRun ds ss k
+pub reaches : (n : ℕ) (K : State) (DS : List Def) (SS : List Step) (first : Mark) (others : List Mark) (ds : List Def) (ss : List Step) (k : State) → AreGiven n K SS first others → IsFront DS SS K ds ss k → IsRun ds ss k
     → Reaches n K DS first others ss k
-reaches n K DS SS first others ds ss k g f names run_start =
+reaches n K DS SS first others ds ss k g f run_start =
     let here = marks_here n K DS SS first others [] [] nothing g f run_start 0 in
     record { total = here.total; leads = subst (λ b. Leads n (standing nothing 0 b) (marks_at K (first ∷ others) 0) (standing nothing here.total (nat_lt first.at 1))) (none_below first.at) here.leads }
-reaches n K DS SS first others ds ss k g f names (run_rule es ts j s c r h) =
-    let split = segments_front ts (s ∷ []) names in
-    let before = reaches n K DS SS first others es ts j g (earlier_step DS SS K es ts (s ∷ []) j.defs j.steps (c ∷ []) f) split.0 r in
-    let named : names_segments s ≡ true = (and_parts (names_segments s) true split.1).0 in
+reaches n K DS SS first others ds ss k g f (run_rule es ts j s c r h) =
+    let before = reaches n K DS SS first others es ts j g (earlier_step DS SS K es ts (s ∷ []) j.defs j.steps (c ∷ []) f) r in
     reach_more n K DS first others ts (ts ++ s ∷ []) s j (record { defs = j.defs; steps = j.steps ++ c ∷ [] }) (one_step K DS (first ∷ others) ts s) (same_place first ts s) before
-    (λ total. step_leads n j total (nat_lt first.at (suc (length ts))) DS s c h named)
+    (λ total. step_leads n j total (nat_lt first.at (suc (length ts))) DS s c h (typed es ts j r))
     (marks_here n K DS SS first others es (ts ++ s ∷ []) (record { defs = j.defs; steps = j.steps ++ c ∷ [] }) g f (run_rule es ts j s c r h))
-reaches n K DS SS first others ds ss k g f names (run_const es ts j name t r h) =
+reaches n K DS SS first others ds ss k g f (run_const es ts j name t r h) =
     let c = string_bytes name in
     let s : Step = Const (length es) in
     let said : Sequent = seq [] (eq_tm (own_const c (tm_type t)) t) in
     let now : State = record { defs = j.defs ++ const_def c t ∷ []; steps = j.steps ++ said ∷ [] } in
     let run = run_const es ts j name t r h in
-    let before = reaches n K DS SS first others es ts j g (earlier DS SS K es (def.Const name t ∷ []) ts (s ∷ []) j.defs (const_def c t ∷ []) j.steps (said ∷ []) f) (segments_front ts (s ∷ []) names).0 r in
+    let before = reaches n K DS SS first others es ts j g (earlier DS SS K es (def.Const name t ∷ []) ts (s ∷ []) j.defs (const_def c t ∷ []) j.steps (said ∷ []) f) r in
     let lines : definition_lines (slice_get DS (length es)) ≡ line_const c t ∷ [] = ap definition_lines (last_def DS SS K es (def.Const name t) (ts ++ s ∷ []) now f) in
     let size = one_longer ts s in
     reach_more n K DS first others ts (ts ++ s ∷ []) s j now (one_step K DS (first ∷ others) ts s) (same_place first ts s) before
@@ -150,14 +150,14 @@ reaches n K DS SS first others ds ss k g f names (run_const es ts j name t r h) 
     (const_leads n j total (nat_lt first.at (suc (length ts))) c t h
     (λ e. let late = not_yet first.at (suc (length ts)) e in next_there n first.at DS SS K (es ++ def.Const name t ∷ []) (ts ++ s ∷ []) j.defs (const_def c t) (j.steps ++ said ∷ []) f (run_counts _ _ now run).made (omega arith) g.exact)))
     (marks_here n K DS SS first others (es ++ def.Const name t ∷ []) (ts ++ s ∷ []) now g f run)
-reaches n K DS SS first others ds ss k g f names (run_type es ts j name p t from r h e) =
+reaches n K DS SS first others ds ss k g f (run_type es ts j name p t from r h e) =
     let c = string_bytes name in
     let i = length es in
     let both : List Step = TypeAbs i ∷ TypeRep i ∷ [] in
     let said : List Sequent = seq [] (abs_rep c p) ∷ seq [] (rep_abs c p) ∷ [] in
     let now : State = record { defs = j.defs ++ type_def c p ∷ []; steps = j.steps ++ said } in
     let run = run_type es ts j name p t from r h e in
-    let before = reaches n K DS SS first others es ts j g (earlier DS SS K es (def.NewType name p from ∷ []) ts both j.defs (type_def c p ∷ []) j.steps said f) (segments_front ts both names).0 r in
+    let before = reaches n K DS SS first others es ts j g (earlier DS SS K es (def.NewType name p from ∷ []) ts both j.defs (type_def c p ∷ []) j.steps said f) r in
     let lines : definition_lines (slice_get DS i) ≡ line_type c from ∷ [] = ap definition_lines (last_def DS SS K es (def.NewType name p from) (ts ++ both) now f) in
     let size = two_longer ts (TypeAbs i) (TypeRep i) in
     let place : IsPlace SS first.at = All-head (λ m. IsPlace SS m.at) first others g.placed in

@@ -85,4 +85,4 @@ counted_whole count k ds ss marks o a e =
     more m l h = omega arith
 
 pub gains_log : (n : ℕ) (k : State) (marks : List Mark) (end : End) (old new : Option Text) (ds : List Def) (ss : List Step) → AreFit n k marks end → IsRun ds ss k → Appends old new (text_of (log_of k ds ss marks end)) → GainsLog n k marks end old new
-gains_log n k marks end old new ds ss h r w = record { defs = ds; steps = ss; run = r; gained = w; good = λ names. good n ds ss k marks end r names h }
+gains_log n k marks end old new ds ss h r w = record { defs = ds; steps = ss; run = r; gained = w; good = good n ds ss k marks end r h }

@@ -1,5 +1,5 @@
 -- What a sink gained of a log, and why a writer gave up.
-use Rattle.std.specs.Prelude.{◌≡◌, ℕ, ◌-◌, true, List, [], ◌∷◌, ◌++◌, Option, Result, Ok, Err, take, drop}
+use Rattle.std.specs.Prelude.{ℕ, ◌-◌, List, [], ◌∷◌, ◌++◌, Option, Result, Ok, Err, take, drop}
 use Rattle.std.specs.List.{flat_map}
 use Rattle.hb_io.specs.Told.{Appends}
 use Rattle.hol_terms.specs.Text.{Text}
@@ -14,7 +14,7 @@ use Rattle.proof_log.specs.declared.marks.End.{End}
 use Rattle.proof_log.specs.declared.write.LogError.{LogError}
 use Rattle.proof_log.specs.declared.write.LogError.TheVariants.{WriteFault, Memory}
 use Rattle.proof_log.specs.Lines.{step_lines, mark_line}
-use Rattle.proof_log.specs.Written.{log_of, text_of, report_text, name_segments}
+use Rattle.proof_log.specs.Written.{log_of, text_of, report_text}
 
 -- the bytes kept grew by a part of the text from its front, or by all of it, or by nothing
 abbrev pub AppendsFront : Option Text → Option Text → Text → Type 0
@@ -28,14 +28,13 @@ IfFault (Err Memory) P = Unit {0}
 
 -- ---- the whole log
 
--- The sink gained the log of steps that give the kernel's state. It is a good log, and its report is what its lines print, where
--- the steps put types for variables whose names are segments.
+-- The sink gained the log of steps that give the kernel's state. It is a good log, and its report is what its lines print.
 pub record GainsLog (n : ℕ) (k : State) (marks : List Mark) (end : End) (old new : Option Text) : Type 0 where
   pub defs : List Def
   pub steps : List Step
   pub run : IsRun defs steps k
   pub gained : Appends old new (text_of (log_of k defs steps marks end))
-  pub good : name_segments steps ≡ true → IsGoodLog n (text_of (log_of k defs steps marks end)) (report_text (log_of k defs steps marks end))
+  pub good : IsGoodLog n (text_of (log_of k defs steps marks end)) (report_text (log_of k defs steps marks end))
 
 -- the sink gained a front of such a log
 pub record GainsFront (k : State) (marks : List Mark) (end : End) (old new : Option Text) : Type 0 where

@@ -1,7 +1,10 @@
 -- The lines of a log: of a step, of a mark and of the end.
 use Rattle.std.specs.declared.alloc.Global.{Global}
-use Rattle.std.specs.Prelude.{◌≡◌, map, String, IsSome, ℕ, List, [], ◌∷◌, Option, Some, None, slice_get, string_bytes}
-use Rattle.hol_terms.specs.Subst.{ty_pairs}
+use Rattle.std.specs.Prelude.{◌≡◌, map, filter, String, IsSome, ℕ, Bool, true, false, List, [], ◌∷◌, Option, Some, None, slice_get, string_bytes, codes}
+use Rattle.hol_terms.specs.Name.{is_segment}
+use Rattle.hol_terms.specs.Ty.{ty_var}
+use Rattle.hol_terms.specs.Subst.{TySubst, ty_pairs}
+use Rattle.hol_terms.specs.Text.{Text}
 use Rattle.hol_terms.specs.declared.defs.Def.{Def}
 use Rattle.hol_terms.specs.declared.defs.Def.TheVariants as def
 use Rattle.hol_kernel.specs.State.{State}
@@ -13,6 +16,28 @@ use Rattle.proof_log.specs.declared.marks.MarkKind.{MarkKind}
 use Rattle.proof_log.specs.declared.marks.MarkKind.TheVariants.{Base, Section, Name}
 use Rattle.proof_log.specs.declared.marks.End.{End}
 use Rattle.proof_log.specs.declared.marks.End.TheVariants.{Done, Stop}
+
+-- ---- what a line puts for type variables
+
+-- types for what may be called a type variable
+abbrev pub segment_pairs : TySubst → TySubst
+segment_pairs s = filter (λ p. is_segment p.0) s
+
+-- a type variable for itself, where there would be no pair
+abbrev pub or_no_change : TySubst → TySubst
+or_no_change [] = (codes "a", ty_var (codes "a")) ∷ []
+or_no_change (p ∷ s) = p ∷ s
+
+-- terms over a signature have no type variable of another name, so that this does the same
+abbrev pub written_pairs : TySubst → TySubst
+written_pairs s = or_no_change (segment_pairs s)
+
+-- what stands before a pair, behind another or as the first
+abbrev pub separator : Bool → Text
+separator true = codes " ; "
+separator false = []
+
+-- ---- lines
 
 abbrev pub definition_lines : Option Def → List LogLine
 definition_lines None = []
@@ -29,7 +54,7 @@ step_lines ds (Beta t) = line_step (step_beta t) ∷ []
 step_lines ds (Assume p) = line_step (step_assume p) ∷ []
 step_lines ds (Mp i j) = line_step (step_mp i j) ∷ []
 step_lines ds (Deduct i j) = line_step (step_deduct i j) ∷ []
-step_lines ds (InstType i s) = line_step (step_inst_type i (ty_pairs s.items)) ∷ []
+step_lines ds (InstType i s) = line_step (step_inst_type i (written_pairs (ty_pairs s.items))) ∷ []
 step_lines ds (Inst i s) = line_step (step_inst i s.items) ∷ []
 step_lines ds (Axiom k) = line_step (step_axiom k) ∷ []
 step_lines ds (Const i) = definition_lines (slice_get ds i)

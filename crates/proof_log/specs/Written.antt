@@ -1,13 +1,9 @@
 -- The log of a kernel's steps with marks and an end: its lines, its text and its report.
-use Rattle.std.specs.Prelude.{ℕ, suc, ◌==◌, Bool, true, List, [], ◌∷◌, ◌++◌, length, map, filter}
-use Rattle.std.specs.List.{list_all}
-use Rattle.hol_terms.specs.Name.{is_segment}
-use Rattle.hol_terms.specs.Subst.{ty_pairs}
+use Rattle.std.specs.Prelude.{ℕ, suc, ◌==◌, List, [], ◌∷◌, ◌++◌, length, map, filter}
 use Rattle.hol_terms.specs.Text.{Text}
 use Rattle.hol_terms.specs.declared.defs.Def.{Def}
 use Rattle.hol_kernel.specs.State.{State}
 use Rattle.hol_kernel.specs.declared.step.Step.{Step}
-use Rattle.hol_kernel.specs.declared.step.Step.TheVariants.{InstType}
 use Rattle.hol_logs.specs.Line.{LogLine, line_first, line_text}
 use Rattle.hol_logs.specs.Position.{LogPosition, start_position, after, report_of}
 use Rattle.hol_logs.specs.Log.{unlines}
@@ -45,14 +41,3 @@ said_by p (l ∷ ls) = report_of p l ++ said_by (after p l) ls
 
 abbrev pub report_text : List LogLine → Text
 report_text lines = unlines (said_by start_position lines)
-
--- ---- type variables
-
--- what a step puts types for has names that a line may have
-abbrev pub names_segments : Step → Bool
-names_segments (InstType i s) = list_all (λ p. is_segment p.0) (ty_pairs s.items)
-names_segments s = true
-
--- so have all steps
-abbrev pub name_segments : List Step → Bool
-name_segments ss = list_all names_segments ss

@@ -4,6 +4,7 @@
 pub mod laws;
 pub mod lines;
 pub mod marks;
+pub mod segments;
 pub mod write;
 
 pub use marks::{End, Mark, MarkKind};

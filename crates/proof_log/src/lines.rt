@@ -7,9 +7,10 @@ ghost use Rattle.hol_terms.specs.Subst.{ty_pairs};
 ghost use Rattle.hol_terms.specs.Text.{tm_text};
 ghost use Rattle.hol_logs.specs.Step.{numeral, numerals, with_semicolons, type_pair_text, pair_text};
 ghost use Rattle.hol_logs.specs.Line.{line_const, line_type, line_name, line_stop, line_text};
-ghost use Rattle.proof_log.specs.Lines.{definition_lines, step_lines, mark_line, end_line, IsLineOf, NamesStep};
+ghost use Rattle.proof_log.specs.Lines.{written_pairs, separator, definition_lines, step_lines, mark_line, end_line, IsLineOf, NamesStep};
 
 use crate::marks::{End, MarkKind};
+use crate::segments::is_segment;
 use hol_kernel::{Kernel, Step};
 use hol_terms::defs::Def;
 use hol_terms::terms::{Term, Var};
@@ -51,19 +52,37 @@ fn push_pair(line: &mut String, pair: &(Var, Term)) -> Result<(), AllocError>
     push_term(line, &pair.1, 0)
 }
 
-#[tactic(auto, using(crate::proofs::Texts::pair_lemmas))]
-fn push_type_pairs(line: &mut String, pairs: &[(String, HolType)]) -> Result<(), AllocError>
-    ensures { OnOk result (string_bytes line.new ≡ string_bytes line.old ++ with_semicolons (map type_pair_text (ty_pairs pairs.now))) }
+/// A pair, behind a semicolon where another stands before it.
+#[tactic(auto, using(crate::proofs::Texts::joined))]
+fn push_next_type_pair(
+    line: &mut String,
+    some: bool,
+    pair: &(String, HolType),
+) -> Result<(), AllocError>
+    ensures { OnOk result (string_bytes line.new ≡ string_bytes line.old ++ (separator some ++ type_pair_text (string_bytes pair.now.0, pair.now.1))) }
 {
-    let [first, rest @ ..] = pairs else {
-        return Ok(());
-    };
-    push_type_pair(line, first)?;
-    for pair in rest {
+    if some {
         line.push_str(" ; ")?;
-        push_type_pair(line, pair)?;
     }
-    Ok(())
+    push_type_pair(line, pair)
+}
+
+/// The pairs whose variables may be called so; a variable for itself where there is none.
+#[tactic(auto, using(crate::proofs::Texts::type_pair_lemmas))]
+fn push_type_pairs(line: &mut String, pairs: &[(String, HolType)]) -> Result<(), AllocError>
+    ensures { OnOk result (string_bytes line.new ≡ string_bytes line.old ++ with_semicolons (map type_pair_text (written_pairs (ty_pairs pairs.now)))) }
+{
+    let mut some = false;
+    for pair in pairs {
+        if is_segment(pair.0.as_str()) {
+            push_next_type_pair(line, some, pair)?;
+            some = true;
+        }
+    }
+    if some {
+        return Ok(());
+    }
+    line.push_str("'a := 'a")
 }
 
 #[tactic(auto, using(crate::proofs::Texts::pair_lemmas))]
@@ -121,7 +140,7 @@ fn abstraction_line(alloc: Global, v: &Var, i: usize) -> Result<String, AllocErr
 }
 
 fn types_line(alloc: Global, i: usize, pairs: &[(String, HolType)]) -> Result<String, AllocError>
-    ensures { IfOk result (λ line. string_bytes line ≡ codes "insttype " ++ numeral i ++ codes " " ++ with_semicolons (map type_pair_text (ty_pairs pairs.now))) }
+    ensures { IfOk result (λ line. string_bytes line ≡ codes "insttype " ++ numeral i ++ codes " " ++ with_semicolons (map type_pair_text (written_pairs (ty_pairs pairs.now)))) }
 {
     let mut line = number_line(alloc, "insttype ", i)?;
     line.push_str(" ")?;

@@ -91,26 +91,31 @@ closed_not false e = refl
 same_some : {A : Type 0} (x y : A) → Some x ≡ Some y → x ≡ y
 same_some x y e = cc
 
-definable : (s : Signature) (n : Name) (t : Ty) (b : Tm) (from : List Token) (d : Define) → may_introduce s n ≡ true → IsOver s [] b → AreGood from → stated n t b from ≡ Some d → IsDefinable s d
+introduced : (s : Signature) (n : Name) → is_free_name s n ≡ true → may_introduce s n ≡ true
+introduced s n h =
+    let p = and_parts (may_introduce s n && not (is_dotted n) && not (bytes_eq n (codes "plugin"))) (not (bytes_eq n (codes "0"))) h in
+    (and_parts (may_introduce s n) (not (is_dotted n)) (and_parts (may_introduce s n && not (is_dotted n)) (not (bytes_eq n (codes "plugin"))) p.0).0).0
+
+no_number : (s : Signature) (n : Name) → is_free_name s n ≡ true → bytes_eq n (codes "0") ≡ false
+no_number s n h = closed_not (bytes_eq n (codes "0")) (and_parts (may_introduce s n && not (is_dotted n) && not (bytes_eq n (codes "plugin"))) (not (bytes_eq n (codes "0"))) h).1
+
+definable : (s : Signature) (n : Name) (t : Ty) (b : Tm) (from : List Token) (d : Define) → is_free_name s n ≡ true → IsOver s [] b → AreGood from → stated n t b from ≡ Some d → IsDefinable s d
 definable s n t b from d m o g e =
     let body : Define = record { name = n; body = b; stray = head_text (strays t from); stray_place = head_place (strays t from) } in
     let h = none_unless (is_body t b) (Some body) d e in
     let p = and_parts (is_eq (ty_cmp (tm_type b) t)) (not (has_frees b)) h.0 in
-    subst (IsDefinable s) (same_some body d h.1) (record { named = m; typed = o; closed = closed_not (has_frees b) p.1; stray = stray-variable t from g })
+    subst (IsDefinable s) (same_some body d h.1) (record { named = introduced s n m; no_number = no_number s n m; typed = o; closed = closed_not (has_frees b) p.1; stray = stray-variable t from g })
 
-meant-definable : (s : Signature) (n : Name) (t : Meaning Ty) (b : Meaning Tm) (from : List Token) (d : Define) → may_introduce s n ≡ true → IsTop s b → AreGood from → meant_by n t b from ≡ Some d → IsDefinable s d
+meant-definable : (s : Signature) (n : Name) (t : Meaning Ty) (b : Meaning Tm) (from : List Token) (d : Define) → is_free_name s n ≡ true → IsTop s b → AreGood from → meant_by n t b from ≡ Some d → IsDefinable s d
 meant-definable s n (means t) (means b) from d m o g e = definable s n t b from d m (o b refl) g e
 meant-definable s n (means t) (fault f) from d m o g e = absurd cc
 meant-definable s n (fault f) (means b) from d m o g e = absurd cc
 meant-definable s n (fault f) (fault h) from d m o g e = absurd cc
 
-introduced : (s : Signature) (n : Name) → is_free_name s n ≡ true → may_introduce s n ≡ true
-introduced s n h = (and_parts (may_introduce s n) (not (is_dotted n)) (and_parts (may_introduce s n && not (is_dotted n)) (not (bytes_eq n (codes "plugin"))) h).0).0
-
 accepted-definable : (s : Signature) (f : Front Written) (d : Define) → Finds (IsRead s) f → accepted s f ≡ Some d → IsDefinable s d
 accepted-definable s (got w ts) d h e =
     let p = none_unless (is_free_name s w.name) (meant_by w.name w.ty w.term w.from_term) d e in
-    meant-definable s w.name w.ty w.term w.from_term d (introduced s w.name p.0) h.0.term h.0.good p.1
+    meant-definable s w.name w.ty w.term w.from_term d p.0 h.0.term h.0.good p.1
 accepted-definable s (stop p) d h e = absurd cc
 
 tokens-definable : (s : Signature) (n : ℕ) (ts : List Token) (d : Define) → GivesTypes s → AreGood ts → define_in s n ts ≡ Some d → IsDefinable s d

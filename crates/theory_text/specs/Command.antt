@@ -130,9 +130,9 @@ abbrev pub strays : Ty → List Token → List Token
 strays t [] = []
 strays t (x ∷ xs) = if is_stray t x then x ∷ xs else strays t xs
 
--- a name that is new, has no dot and isn't reserved: `plugin`, and `x` and digits
+-- a name that is new, has no dot and isn't reserved: `plugin`, `x` and digits, and `0`, which is the number's
 abbrev pub is_free_name : Signature → Name → Bool
-is_free_name s n = may_introduce s n && not (is_dotted n) && not (bytes_eq n (codes "plugin"))
+is_free_name s n = may_introduce s n && not (is_dotted n) && not (bytes_eq n (codes "plugin")) && not (bytes_eq n (codes "0"))
 
 -- no type variable is called `x` and digits
 abbrev pub is_numbered_variable : Token → Bool

@@ -36,11 +36,11 @@ fn is_dotted(name: &str) -> bool
     name.as_bytes().iter().any(|c| *c == b'.')
 }
 
-/// Whether the name is new, has no dot and isn't reserved.
+/// Whether the name is new, has no dot and isn't reserved, nor the number `0`.
 fn is_free_name(sig: &Sig, name: &str) -> bool
     ensures { result ≡ is_free_name sig.now name.now }
 {
-    sig.may_introduce(name) && !is_dotted(name) && name != "plugin"
+    sig.may_introduce(name) && !is_dotted(name) && name != "plugin" && name != "0"
 }
 
 /// Whether the term has the type and no free variables.

@@ -1,6 +1,6 @@
 use Rattle.std.proofs.Common.{◌+◌, ◌≤◌, ◌-◌, length}
 use Rattle.hb_io.specs.Told.{Takes}
-use Rattle.hb_top.specs.Answer.{limit}
+use Rattle.theory_answers.specs.Answer.{limit}
 use Rattle.hb_top.proofs.input.read_input.Given as goal
 
 abbrev pub invariant-loop-buf : goal.invariant-loop-buf

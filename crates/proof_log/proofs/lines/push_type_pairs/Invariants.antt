@@ -1,7 +1,7 @@
-use Rattle.std.proofs.Common.{◌≡◌, ◌++◌, string_bytes, drop}
-use Rattle.proof_log.proofs.Texts.{behind_semicolons, type_texts}
+use Rattle.std.proofs.Common.{◌≡◌, ◌++◌, false, string_bytes, drop}
+use Rattle.proof_log.proofs.Texts.{types_left}
 use Rattle.proof_log.proofs.lines.push_type_pairs.Given as goal
 
--- what is written so far, and each of the pairs that are left behind a semicolon
+-- what is written so far, and what the pairs that are left come to
 abbrev pub invariant-loop-pair : goal.invariant-loop-pair
-invariant-loop-pair l = string_bytes l.line ++ behind_semicolons (type_texts (drop l.pair-index l.rest)) ≡ string_bytes l.initial.line ++ behind_semicolons (type_texts l.rest)
+invariant-loop-pair l = string_bytes l.line ++ types_left l.some (drop l.pair-index l.pairs) ≡ string_bytes l.initial.line ++ types_left false l.pairs

@@ -1,6 +1,0 @@
-use Rattle.std.specs.Fmt.{digits}
-use Rattle.hb_top.proofs.output.begin.Goals as goal
-
-pub returns : goal.returns
-unfolding digits
-returns c = c.from_str.ensures.ok

@@ -1,0 +1,10 @@
+pub mod OutputLines
+pub mod Conservative
+pub mod Lines
+pub mod BaseTypes
+pub mod Outputs
+pub mod Parts
+pub mod Checking
+pub mod Deciding
+pub mod FactNames
+pub mod Telling
