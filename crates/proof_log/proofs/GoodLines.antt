@@ -27,7 +27,8 @@ use Rattle.hol_logs.specs.Log.{IsGood}
 use Rattle.hol_logs.proofs.Causes.{HasNoCause}
 use Rattle.proof_log.specs.Lines.{step_lines}
 use Rattle.proof_log.proofs.Good.{Leads, leads_one, leads_by}
-use Rattle.proof_log.proofs.RuleLines.{at_number, hit_one, same_to_itself, are_base-from, IsRuleLine, AreStepsTyped, rule_line}
+use Rattle.hol_logs.proofs.BaseStands.{same_itself, are_base-from}
+use Rattle.proof_log.proofs.RuleLines.{at_number, hit_one, IsRuleLine, AreStepsTyped, rule_line}
 
 -- the position behind the first line and so many more, where a kernel's state is reached
 abbrev pub standing : State → ℕ → Bool → LogPosition
@@ -98,7 +99,7 @@ introduced : (s : Signature) (n : Name) → may_introduce s n ≡ true → is_na
 introduced s n h = (and_parts (is_name n) (not (is_numbered n)) (and_parts (is_name n && not (is_numbered n)) (is_new s n) h).0).0
 
 next_base : (n : ℕ) (ds : List Definition) (d : Definition) → slice_get (base n) (length ds) ≡ Some d → not (is_next_base n ds d) ≡ false
-next_base n ds d e = ap (λ o. not (list_any (same_definition d) (option_to_list o))) e ∙ ap (λ t. not (t || false)) (same_to_itself d)
+next_base n ds d e = ap (λ o. not (list_any (same_definition d) (option_to_list o))) e ∙ ap (λ t. not (t || false)) (same_itself d)
 
 const_fit : (ds : List Definition) (c : Name) (t : Tm) → IsConstDef ds c t → is_unfit_const ds c t ≡ false
 const_fit ds c t h = λ i. not (h.named i) || h.closed i || not (h.covered i)

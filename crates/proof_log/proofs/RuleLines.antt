@@ -1,28 +1,24 @@
 -- A rule's or an axiom's step of a kernel gives in a log what it gives in the kernel.
-use Rattle.std.proofs.Common.{◌≡◌, ℕ, zero, suc, ◌<◌, true, false, not, ◌||◌, List, [], ◌∷◌, ◌++◌, length, Option, Some, take, refl, ap, ◌∙◌, arith, slice_get, unwrap_or, nat_lt}
-use Rattle.std.specs.Cmp.Lexicographic.{pointwise}
-use Rattle.std.proofs.lemmas.Bool.{and_from, not_from_true}
+use Rattle.std.proofs.Common.{◌≡◌, ℕ, zero, suc, ◌<◌, true, false, not, ◌||◌, List, [], ◌∷◌, length, Option, Some, refl, ap, ◌∙◌, arith, slice_get, unwrap_or, nat_lt}
+use Rattle.std.proofs.lemmas.Bool.{not_from_true}
 use Rattle.std.proofs.lemmas.Bool.Decides.{nat_tests}
 use Rattle.std.proofs.lemmas.Option.{slice_get_within}
-use Rattle.std.proofs.lemmas.Slice.Eq.{bytes_eq-Decides}
 use Rattle.hol_terms.specs.Ty.{ty_var}
 use Rattle.hol_terms.specs.Tm.{tm_index}
 use Rattle.hol_terms.specs.Subst.{ty_pairs}
 use Rattle.hol_terms.specs.Binding.{VarSubst}
-use Rattle.hol_terms.specs.Definition.{Definition, const_def, type_def, signature_of}
+use Rattle.hol_terms.specs.Definition.{signature_of}
 use Rattle.hol_terms.specs.Sequent.{Sequent, seq, IsTyped}
-use Rattle.hol_terms.specs.Rules.{same, both, some_pair, are_distinct_vars, keeps_types, trans_rule, comb_rule, abs_rule, eq_mp_rule, deduct_rule, inst_type_rule, inst_rule}
-use Rattle.hol_terms.specs.Base.{base, base_definitions}
-use Rattle.hol_terms.specs.Proves.{IsPrefix}
+use Rattle.hol_terms.specs.Rules.{both, some_pair, are_distinct_vars, keeps_types, trans_rule, comb_rule, abs_rule, eq_mp_rule, deduct_rule, inst_type_rule, inst_rule}
 use Rattle.hol_terms.specs.declared.defs.Def.{Def}
-use Rattle.hol_terms.proofs.Same.{same_refl}
 use Rattle.hol_kernel.specs.State.{State}
 use Rattle.hol_kernel.specs.Run.{from_one, from_two, IsStep}
 use Rattle.hol_kernel.specs.declared.step.Step.{Step}
 use Rattle.hol_kernel.specs.declared.step.Step.TheVariants.{Refl, Trans, Comb, Abs, Beta, Assume, Mp, Deduct, InstType, Inst, Axiom, Const, TypeAbs, TypeRep}
 use Rattle.hol_kernel.proofs.Guards.{premise, passed, both_parts}
-use Rattle.hol_logs.specs.Step.{LogStep, step_refl, step_trans, step_comb, step_abs, step_beta, step_assume, step_mp, step_deduct, step_inst_type, step_inst, step_axiom, IsStepOver, premises, sequent_at, same_definition, are_base, axiom_of, if_connectives, step_gives}
+use Rattle.hol_logs.specs.Step.{LogStep, step_refl, step_trans, step_comb, step_abs, step_beta, step_assume, step_mp, step_deduct, step_inst_type, step_inst, step_axiom, IsStepOver, premises, sequent_at, axiom_of, if_connectives, step_gives}
 use Rattle.hol_logs.specs.Line.{line_step}
+use Rattle.hol_logs.proofs.BaseStands.{connectives_there}
 use Rattle.log_laws.proofs.StepsProve.{miss}
 use Rattle.proof_log.specs.Lines.{step_lines, written_pairs}
 use Rattle.proof_log.proofs.TypePairs.{some_written, all_segments, over_written, inst_type_written}
@@ -40,29 +36,6 @@ hit_one steps i a e = ap (λ b. b || false) (there steps i a e)
 
 hit_two : (steps : List Sequent) (i j : ℕ) (a b : Sequent) → slice_get steps i ≡ Some a → slice_get steps j ≡ Some b → miss steps (i ∷ j ∷ []) ≡ false
 hit_two steps i j a b e f = ap (λ c. c || miss steps (j ∷ [])) (there steps i a e) ∙ hit_one steps j b f
-
--- ---- the base definitions under an axiom
-
-same_itself : (d : Definition) → same_definition d d ≡ true
-same_itself (const_def c t) = ap (λ b. both b (same t t)) ((bytes_eq-Decides c c).1 refl) ∙ same_refl t
-same_itself (type_def c t) = ap (λ b. both b (same t t)) ((bytes_eq-Decides c c).1 refl) ∙ same_refl t
-
-pub same_to_itself : (d : Definition) → same_definition d d ≡ true
-same_to_itself d = same_itself d
-
-all_same : (ds : List Definition) → pointwise same_definition ds ds ≡ true
-all_same [] = refl
-all_same (d ∷ ds) = and_from (same_definition d d) (pointwise same_definition ds ds) (same_itself d) (all_same ds)
-
-pub are_base-from : (n : ℕ) (ds : List Definition) → ds ≡ base n → are_base n ds ≡ true
-are_base-from n ds e = ap (λ es. pointwise same_definition es (base n)) e ∙ all_same (base n)
-
-first_ten : (more : List Definition) → take 10 (base 10 ++ more) ≡ base 10
-unfolding base_definitions
-first_ten more = refl
-
-connectives_there : (ds : List Definition) → IsPrefix (base 10) ds → are_base 10 (take 10 ds) ≡ true
-connectives_there ds p = are_base-from 10 (take 10 ds) (ap (take 10) p.1 ∙ first_ten p.0)
 
 -- ---- rules
 
