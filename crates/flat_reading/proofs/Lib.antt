@@ -1,0 +1,4 @@
+pub mod Fitting
+pub mod Growing
+pub mod ApplySteps
+pub mod BinderSteps

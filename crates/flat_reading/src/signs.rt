@@ -98,7 +98,9 @@ pub fn behind_bound(depth: usize, text: &[u8]) -> Option<&[u8]>
     ensures some { IfSome result (λ rest. behind (bound_text depth) text.now ≡ Some rest.now) }
     ensures none { IfNone result (behind (bound_text depth) text.now ≡ None) }
 {
-    let digits = behind(b"x", text)?;
+    let Some(digits) = behind(b"x", text) else {
+        return None;
+    };
     let mut buffer = Buffer::new();
     behind(buffer.format(depth).as_bytes(), digits)
 }
