@@ -2,7 +2,7 @@
 use Rattle.std.proofs.Common.{◌≡◌, Bool, true, false, List, [], ◌∷◌, Option, Some, None, Result, Ok, Err, IfOk, OnErr, refl, ap, sym, subst, ◌∙◌}
 use Rattle.hol_terms.specs.Ty.{Ty, tys}
 use Rattle.hol_terms.specs.Tm.{Tm, FreeVar, tm_comb}
-use Rattle.hol_terms.specs.Signature.{Signature, AreTysOver}
+use Rattle.hol_terms.specs.Signature.{Signature, IsTyOver, AreTysOver}
 use Rattle.hol_terms.specs.Text.{Text}
 use Rattle.flat_terms.specs.declared.nodes.TypeId.{TypeId}
 use Rattle.flat_terms.specs.declared.nodes.TermId.{TermId}
@@ -16,7 +16,9 @@ use Rattle.flat_signatures.specs.Reads.{IsTermOf}
 use Rattle.flat_signatures.proofs.Signatures.{signature_there, signature_same}
 use Rattle.flat_signatures.proofs.Numbers.{types_there}
 use Rattle.flat_reading.specs.declared.atoms.TermRead.{TermRead}
-use Rattle.flat_reading.specs.Reads.{IsTermRead, IsFreeRead, AreBinders}
+use Rattle.flat_reading.specs.declared.terms.ScopeRead.{ScopeRead}
+use Rattle.flat_reading.specs.Scopes.{Scope, IsScopeRead}
+use Rattle.flat_reading.specs.Reads.{IsTermRead, AreBinders}
 
 pub grows_by_term : {E : Type 0} (t u : PlainTables) (x : Tm) (r : Result TermId E) → IfOk r (λ n. IsTermAdded t u n x) → OnErr r (u ≡ t) → TablesGrow t u
 grows_by_term t u x (Ok n) a e = tables_grow_by_term t u n x a
@@ -66,3 +68,22 @@ bound_same t u s bound g h = (types_there t u bound g h.has).trees
 
 pub names_same : (t u : PlainTables) (s : FlatNames) (bound : List TypeId) → TablesGrow t u → AreBinders t s bound → plain_signature u s ≡ plain_signature t s
 names_same t u s bound g h = signature_same t u s g h.signature
+
+-- one more binder
+pub binders_more : (t u : PlainTables) (s : FlatNames) (bound c : List TypeId) (y : TypeId) → TablesGrow t u → AreBinders t s bound → HasType u y → IsTyOver (plain_signature t s) (type_of u y) → c ≡ y ∷ bound → AreBinders u s c
+binders_more t u s bound c y g h hy over e = subst (λ (l : List TypeId). AreBinders u s l) (sym e) (record {
+  signature = there.signature;
+  has = (hy, there.has);
+  over = (subst (λ (z : Signature). IsTyOver z (type_of u y)) (sym (signature_same t u s g h.signature)) over, there.over);
+})
+  where
+    there : AreBinders u s bound
+    there = binders_there t u s bound g h
+
+-- ---- what stands behind the sign of a binder
+
+pub scope_none : (t : PlainTables) (r : Option ScopeRead) (o : Option (Scope × Text)) → IsScopeRead t r o → r ≡ None → o ≡ None
+scope_none t r o h e = subst (λ (p : Option ScopeRead). IsScopeRead t p o) e h
+
+pub scope_some : (t : PlainTables) (r : Option ScopeRead) (x : ScopeRead) (o : Option (Scope × Text)) → IsScopeRead t r o → r ≡ Some x → HasType t x.ty × HasTerm t x.body × (o ≡ Some (record { ty = type_of t x.ty; body = term_of t x.body }, x.rest.now))
+scope_some t r x o h e = subst (λ (p : Option ScopeRead). IsScopeRead t p o) e h

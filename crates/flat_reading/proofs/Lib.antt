@@ -3,3 +3,4 @@ pub mod Growing
 pub mod ApplySteps
 pub mod BinderSteps
 pub mod AtomSteps
+pub mod TermSteps

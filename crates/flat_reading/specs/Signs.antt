@@ -15,10 +15,6 @@ use Rattle.flat_reading.specs.declared.signs.BinderSign.TheVariants.{Lambda, All
 use Rattle.flat_reading.specs.declared.signs.Connective.{Connective}
 use Rattle.flat_reading.specs.declared.signs.Connective.TheVariants.{Equals, And, Or, Implies}
 
--- what is read behind the first of the three signs of binders that the text begins with, or where it begins with none
-abbrev pub by_binder : {A : Type 0} → Option (BinderSign × Text) → (BinderSign → Text → A) → A → A
-by_binder None f z = z
-by_binder (Some p) f z = f p.0 p.1
 
 abbrev pub some_sign : {A : Type 0} → A → Option Text → Option (A × Text) → Option (A × Text)
 some_sign b None o = o
