@@ -3,3 +3,4 @@ pub mod TypeSteps
 pub mod TermSteps
 pub mod OrderSteps
 pub mod RetypeSteps
+pub mod TablesGrow
