@@ -66,9 +66,12 @@ abbrev pub stop_line : Text → Option LogLine
 stop_line x =
     parted (reads_number x) (codes " ") (λ k y. parted (reads_word y) (codes " ") (λ test z. parted (reads_word z) (codes " ") (λ name v. number_line (line_stop k test name) v)))
 
+abbrev pub first_line : Text → Option LogLine
+first_line x = when (length x == 0) (Some line_first)
+
 abbrev pub line_forms : Signature → List (Form LogLine)
 line_forms s =
-    (codes "hbnf-log 1", λ x. when (length x == 0) (Some line_first)) ∷ (codes "const ", const_line s) ∷ (codes "type ", type_line) ∷ (codes "base ", number_line line_base) ∷ (codes "section ", section_line)
+    (codes "hbnf-log 1", first_line) ∷ (codes "const ", const_line s) ∷ (codes "type ", type_line) ∷ (codes "base ", number_line line_base) ∷ (codes "section ", section_line)
     ∷ (codes "name ", name_line s) ∷ (codes "end ", number_line line_end) ∷ (codes "stop ", stop_line) ∷ []
 
 -- the line over the signature whose text it is
