@@ -1,5 +1,6 @@
 -- What a reading gives, by what its parts gave.
-use Rattle.std.proofs.Common.{◌≡◌, refl, sym, ap, ◌∙◌, Bool, true, false, ◌==◌, Option, Some, None, length}
+use Rattle.std.proofs.Common.{◌≡◌, refl, sym, ap, ◌∙◌, subst, Bool, true, false, ◌==◌, Option, Some, None, length}
+use Rattle.std.specs.Prelude.{is_some}
 use Rattle.hol_terms.specs.Text.{Text}
 use Rattle.strict_reading.specs.Steps.{◌>>=◌, when, either}
 use Rattle.strict_reading.specs.Words.{behind}
@@ -47,3 +48,48 @@ ended_made (Some a) f = at (length a.1 == 0)
     at : (b : Bool) → when b (Some (f a.0)) ≡ (when b (Some a.0) >>= (λ x. Some (f x)))
     at true = refl
     at false = refl
+
+-- ---- readings in code that gave something, or nothing
+
+pub gave_none : {A B : Type 0} (R : A → B → Type 0) (o : Option A) (p : Option B) → Reads R o p → o ≡ None → p ≡ None
+gave_none R o p h e = subst (λ v. Reads R v p) e h
+
+pub gave_some : {A B : Type 0} (R : A → B → Type 0) (o : Option A) (p : Option B) (a : A) → Reads R o p → o ≡ Some a → (b : B) × (p ≡ Some b) × R a b
+gave_some R o p a h e = subst (λ v. Reads R v p) e h
+
+pub gave_alike : {A B : Type 0} (R : A → B → Type 0) (o : Option A) (p : Option B) → Reads R o p → is_some o ≡ is_some p
+gave_alike R None p h = ap is_some (sym h)
+gave_alike R (Some a) p h = ap is_some (sym h.1)
+
+pub made_alike : {A B : Type 0} (p : Option A) (f : A → B) → is_some (p >>= (λ a. Some (f a))) ≡ is_some p
+unfolding ◌>>=◌
+made_alike None f = refl
+made_alike (Some a) f = refl
+
+-- ---- what is made of what was read
+
+pub ended_then : {A B C : Type 0} (o : Option (A × Text)) (g : A → B) (f : B → C) → ended o (λ a. f (g a)) ≡ (ended o g >>= (λ b. Some (f b)))
+unfolding ended when ◌>>=◌
+ended_then None g f = refl
+ended_then (Some a) g f = at (length a.1 == 0)
+  where
+    at : (b : Bool) → when b (Some (f (g a.0))) ≡ (when b (Some (g a.0)) >>= (λ x. Some (f x)))
+    at true = refl
+    at false = refl
+
+pub parted_then : {A B C : Type 0} (o : Option (A × Text)) (sign : Text) (g : A → Text → Option B) (h : B → Option C) (f : A → Text → Option C) → ((a : A) (y : Text) → f a y ≡ (g a y >>= h)) → parted o sign f ≡ (parted o sign g >>= h)
+unfolding parted ◌>>=◌
+parted_then None sign g h f e = refl
+parted_then (Some a) sign g h f e = at (behind sign a.1)
+  where
+    at : (r : Option Text) → (r >>= (λ y. f a.0 y)) ≡ ((r >>= (λ y. g a.0 y)) >>= h)
+    at None = refl
+    at (Some y) = e a.0 y
+
+pub some_of : {A : Type 0} (o : Option A) → is_some o ≡ true → (a : A) × (o ≡ Some a)
+some_of None h = cc
+some_of (Some a) h = (a, refl)
+
+pub none_of : {A : Type 0} (o : Option A) → is_some o ≡ false → o ≡ None
+none_of None h = refl
+none_of (Some a) h = cc

@@ -52,7 +52,10 @@ pub fn read_type_pairs(
         };
         pairs.push((read.variable, read.ty))?;
         let Some(next) = behind(b" ; ", read.rest) else {
-            return Ok(if read.rest.is_empty() { Some(pairs) } else { None });
+            if read.rest.is_empty() {
+                return Ok(Some(pairs));
+            }
+            return Ok(None);
         };
         rest = next;
     }
@@ -78,7 +81,10 @@ pub fn read_pairs(
         };
         pairs.push((read.variable, read.term))?;
         let Some(next) = behind(b" ; ", read.rest) else {
-            return Ok(if read.rest.is_empty() { Some(pairs) } else { None });
+            if read.rest.is_empty() {
+                return Ok(Some(pairs));
+            }
+            return Ok(None);
         };
         rest = next;
     }

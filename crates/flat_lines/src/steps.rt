@@ -45,31 +45,49 @@ pub fn read_step(
     ensures ok { IfOk result (λ r. Reads (IsFlatStep tables.new) r (reads_step (plain_signature tables.old signature.now) text.now)) }
 {
     if let Some(rest) = behind(b"refl ", text) {
-        let term = read_last_term(tables, alloc, signature, rest)?;
-        return Ok(term.map(FlatStep::Refl));
+        let Some(term) = read_last_term(tables, alloc, signature, rest)? else {
+            return Ok(None);
+        };
+        return Ok(Some(FlatStep::Refl(term)));
     }
     if let Some(rest) = behind(b"trans ", text) {
-        return Ok(read_last_numbers(rest).map(|(i, j)| FlatStep::Trans(i, j)));
+        let Some((first, second)) = read_last_numbers(rest) else {
+            return Ok(None);
+        };
+        return Ok(Some(FlatStep::Trans(first, second)));
     }
     if let Some(rest) = behind(b"comb ", text) {
-        return Ok(read_last_numbers(rest).map(|(i, j)| FlatStep::Comb(i, j)));
+        let Some((first, second)) = read_last_numbers(rest) else {
+            return Ok(None);
+        };
+        return Ok(Some(FlatStep::Comb(first, second)));
     }
     if let Some(rest) = behind(b"abs ", text) {
         return read_abs(tables, alloc, signature, rest);
     }
     if let Some(rest) = behind(b"beta ", text) {
-        let term = read_last_term(tables, alloc, signature, rest)?;
-        return Ok(term.map(FlatStep::Beta));
+        let Some(term) = read_last_term(tables, alloc, signature, rest)? else {
+            return Ok(None);
+        };
+        return Ok(Some(FlatStep::Beta(term)));
     }
     if let Some(rest) = behind(b"assume ", text) {
-        let term = read_last_term(tables, alloc, signature, rest)?;
-        return Ok(term.map(FlatStep::Assume));
+        let Some(term) = read_last_term(tables, alloc, signature, rest)? else {
+            return Ok(None);
+        };
+        return Ok(Some(FlatStep::Assume(term)));
     }
     if let Some(rest) = behind(b"mp ", text) {
-        return Ok(read_last_numbers(rest).map(|(i, j)| FlatStep::Mp(i, j)));
+        let Some((first, second)) = read_last_numbers(rest) else {
+            return Ok(None);
+        };
+        return Ok(Some(FlatStep::Mp(first, second)));
     }
     if let Some(rest) = behind(b"deduct ", text) {
-        return Ok(read_last_numbers(rest).map(|(i, j)| FlatStep::Deduct(i, j)));
+        let Some((first, second)) = read_last_numbers(rest) else {
+            return Ok(None);
+        };
+        return Ok(Some(FlatStep::Deduct(first, second)));
     }
     if let Some(rest) = behind(b"insttype ", text) {
         return read_inst_type(tables, alloc, signature, rest);
@@ -78,7 +96,10 @@ pub fn read_step(
         return read_inst(tables, alloc, signature, rest);
     }
     if let Some(rest) = behind(b"axiom ", text) {
-        return Ok(read_last_number(rest).map(FlatStep::Axiom));
+        let Some(number) = read_last_number(rest) else {
+            return Ok(None);
+        };
+        return Ok(Some(FlatStep::Axiom(number)));
     }
     Ok(None)
 }

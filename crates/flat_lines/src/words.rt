@@ -1,7 +1,9 @@
 //! Names, and the words of a refusal.
 
-ghost use Rattle.std.specs.Prelude.{◌≡◌, ◌==◌, ◌&&◌, not, IfOk};
+ghost use Rattle.std.specs.Prelude.{◌≡◌, ◌==◌, ◌&&◌, ◌||◌, not, codes, IfOk};
 ghost use Rattle.std.specs.List.{list_all, prefix_len};
+ghost use Rattle.std.specs.Str.{is_utf8};
+ghost use Rattle.hol_terms.specs.Sound.{begins_with};
 ghost use Rattle.hol_logs.specs.Line.{is_section, is_word};
 ghost use Rattle.strict_lines.specs.Operands.{reads_name, reads_segment, reads_word, is_no_space};
 ghost use Rattle.flat_instances.specs.TablesGrow.{TablesGrow};
@@ -10,7 +12,7 @@ ghost use Rattle.flat_lines.specs.Operands.{IsNameRead, IsLeft};
 
 use flat_signatures::entries::put_name;
 use flat_signatures::names::{is_name, is_segment};
-use flat_signatures::words::{behind, split_word};
+use flat_signatures::words::split_word;
 use flat_terms::nodes::NameId;
 use flat_terms::tables::Tables;
 use std::alloc::{AllocError, Global};
@@ -86,20 +88,20 @@ fn word_len(text: &[u8]) -> usize
 fn is_word(text: &[u8]) -> bool
     ensures { result ≡ is_word text.now }
 {
-    if str::from_utf8(text).is_err() {
-        return false;
-    }
-    !text.is_empty() && has_no_space(text)
+    is_utf8(text) && !text.is_empty() && has_no_space(text)
 }
 
 /// Whether the text may open a section: UTF-8 without a newline, which begins with one of two words.
 pub fn is_section(text: &[u8]) -> bool
     ensures { result ≡ is_section text.now }
 {
-    if str::from_utf8(text).is_err() || !has_no_newline(text) {
-        return false;
-    }
-    text.starts_with(b"command ") || text.starts_with(b"plugin ")
+    is_utf8(text) && has_no_newline(text) && begins_section(text)
+}
+
+fn is_utf8(text: &[u8]) -> bool
+    ensures { result ≡ is_utf8 text.now }
+{
+    str::from_utf8(text).is_ok()
 }
 
 fn has_no_newline(text: &[u8]) -> bool
@@ -112,4 +114,10 @@ fn has_no_space(text: &[u8]) -> bool
     ensures { result ≡ list_all (λ b. not (b == 32) && not (b == 10)) text.now }
 {
     text.iter().all(|b| *b != b' ' && *b != b'\n')
+}
+
+fn begins_section(text: &[u8]) -> bool
+    ensures { result ≡ (begins_with (codes "command ") text.now || begins_with (codes "plugin ") text.now) }
+{
+    text.starts_with(b"command ") || text.starts_with(b"plugin ")
 }
