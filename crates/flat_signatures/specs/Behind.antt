@@ -1,15 +1,19 @@
 -- Types that are read after others.
-use Rattle.std.specs.Prelude.{Bool, false, not, ◌&&◌, List, [], ◌∷◌, Option, Some, None}
+use Rattle.std.specs.Prelude.{ℕ, Bool, not, ◌&&◌, ◌==◌, nat_lt, bytes_eq, List, [], ◌∷◌, Option, Some, None}
 use Rattle.hol_terms.specs.Name.{Name}
-use Rattle.hol_terms.specs.Ty.{Ty, Tys, no_tys, more_tys}
-use Rattle.hol_terms.specs.Signature.{Signature, tys_count}
-use Rattle.hol_terms.specs.Text.{Text, is_arrow}
-use Rattle.strict_reading.specs.Types.{has_arity, some_types}
+use Rattle.hol_terms.specs.Ty.{Ty, Tys, more_tys}
+use Rattle.hol_terms.specs.Typing.{fun_name}
+use Rattle.hol_terms.specs.Signature.{Signature}
+use Rattle.hol_terms.specs.Text.{Text}
+use Rattle.strict_reading.specs.Types.{has_arity}
 
--- the name may stand behind the types in parentheses
-abbrev pub stands_behind : Signature → Name → Tys → Bool
-stands_behind s c no_tys = false
-stands_behind s c (more_tys t ts) = some_types ts && not (is_arrow c (more_tys t ts)) && has_arity s c (tys_count (more_tys t ts))
+-- several types stand in parentheses before a name, but for the two of a function type
+abbrev pub may_stand_behind : Name → ℕ → Bool
+may_stand_behind c k = nat_lt 1 k && not ((k == 2) && bytes_eq c fun_name)
+
+-- the name of a type stands behind the types in parentheses
+abbrev pub stands_behind : Signature → Name → ℕ → Bool
+stands_behind s c k = may_stand_behind c k && has_arity s c k
 
 abbrev pub in_front : List Ty → Tys → Tys
 in_front [] us = us

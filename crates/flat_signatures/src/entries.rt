@@ -1,7 +1,7 @@
 //! Entries of the tables that readings add.
 
 ghost use Rattle.std.specs.Prelude.{◌≡◌, ◌++◌, IfOk};
-ghost use Rattle.hol_terms.specs.Ty.{ty_var};
+ghost use Rattle.hol_terms.specs.Ty.{ty_var, ty_app, no_tys};
 ghost use Rattle.hol_terms.specs.Typing.{fun_ty};
 ghost use Rattle.hol_terms.specs.Name.{is_segment};
 ghost use Rattle.flat_terms.specs.Plain.{HasName, HasType, name_of, type_of};
@@ -38,6 +38,32 @@ pub fn put_dotted(
     put_name(tables, alloc, whole.as_str())
 }
 
+/// The number of a type variable of any name. After want of memory the tables may have more names.
+pub fn put_type_variable(
+    tables: &mut Tables,
+    alloc: Global,
+    text: &str,
+) -> Result<TypeId, AllocError>
+    ensures grows { TablesGrow tables.old tables.new }
+    ensures ok { IfOk result (λ t. IsTypeNumber tables.new t (ty_var text.now)) }
+{
+    let name = put_name(tables, alloc, text)?;
+    tables.type_variable(name)
+}
+
+/// The number of a type of that name without arguments. After want of memory the tables may have more names.
+pub fn put_type_constant(
+    tables: &mut Tables,
+    alloc: Global,
+    text: &str,
+) -> Result<TypeId, AllocError>
+    ensures grows { TablesGrow tables.old tables.new }
+    ensures ok { IfOk result (λ t. IsTypeNumber tables.new t (ty_app text.now no_tys)) }
+{
+    let name = put_name(tables, alloc, text)?;
+    tables.type_application(alloc, name, &[])
+}
+
 /// The number of a function type. After want of memory the tables may have more names.
 pub fn put_function(
     tables: &mut Tables,
@@ -70,7 +96,6 @@ pub fn put_variable(
     if !is_segment(text) {
         return Ok(None);
     }
-    let name = put_name(tables, alloc, text)?;
-    let variable = tables.type_variable(name)?;
+    let variable = put_type_variable(tables, alloc, text)?;
     Ok(Some(variable))
 }

@@ -13,7 +13,7 @@ ghost use Rattle.flat_instances.specs.TablesGrow.{TablesGrow};
 ghost use Rattle.flat_signatures.specs.FlatNames.{plain_signature, HasSignature};
 ghost use Rattle.flat_signatures.specs.Starting.{IsGenericOf, AreBaseTypes};
 
-use crate::entries::{put_dotted, put_function, put_name};
+use crate::entries::{put_dotted, put_function, put_name, put_type_constant, put_type_variable};
 use crate::names::{is_name, is_numbered};
 use flat_terms::nodes::{NameId, TypeId};
 use flat_terms::tables::Tables;
@@ -80,6 +80,7 @@ impl FlatSignature {
         ensures ok { OnOk result (plain_signature tables.now self.new ≡ with_type (plain_signature tables.now self.old) (name_of tables.now name) arity) }
         ensures err { OnErr result (self.new ≡ self.old) }
     {
+        tables.entries_once();
         let _ = tables.name_text(name);
         self.types.insert(name, arity)?;
         Ok(())
@@ -100,6 +101,7 @@ impl FlatSignature {
         ensures ok { OnOk result (plain_signature tables.now self.new ≡ with_const (plain_signature tables.now self.old) (name_of tables.now name) (type_of tables.now generic)) }
         ensures err { OnErr result (self.new ≡ self.old) }
     {
+        tables.entries_once();
         let _ = tables.name_text(name);
         self.constants.insert(name, generic)?;
         Ok(())
@@ -215,10 +217,8 @@ fn base_types(tables: &mut Tables, alloc: Global) -> Result<BaseTypes, AllocErro
     ensures grows { TablesGrow tables.old tables.new }
     ensures ok { IfOk result (λ b. AreBaseTypes tables.new b) }
 {
-    let name = put_name(tables, alloc, "a")?;
-    let alpha = tables.type_variable(name)?;
-    let name = put_name(tables, alloc, "bool")?;
-    let truth = tables.type_application(alloc, name, &[])?;
+    let alpha = put_type_variable(tables, alloc, "a")?;
+    let truth = put_type_constant(tables, alloc, "bool")?;
     let predicate = put_function(tables, alloc, alpha, truth)?;
     let equality = put_function(tables, alloc, alpha, predicate)?;
     let choice = put_function(tables, alloc, predicate, alpha)?;

@@ -8,7 +8,7 @@ ghost use Rattle.flat_terms.specs.Plain.{HasType, HasTypes, type_of, types_of};
 ghost use Rattle.flat_instances.specs.TablesGrow.{TablesGrow};
 ghost use Rattle.flat_signatures.specs.FlatNames.{plain_signature, HasSignature};
 ghost use Rattle.flat_signatures.specs.Reads.{IsTypeWhere, IsTypeRead, AreTypesRead};
-ghost use Rattle.flat_signatures.specs.Behind.{stands_behind, with_front};
+ghost use Rattle.flat_signatures.specs.Behind.{may_stand_behind, stands_behind, with_front};
 
 use crate::entries::{put_name, put_variable};
 use crate::signature::FlatSignature;
@@ -238,10 +238,17 @@ fn apply_behind(
     requires signature { HasSignature tables.old signature.now }
     requires args { HasTypes tables.old args.now }
     ensures grows { TablesGrow tables.old tables.new }
-    ensures ok { IfOk result (λ r. IsTypeWhere tables.new r (stands_behind (plain_signature tables.old signature.now) word.now (tys (types_of tables.old args.now))) (ty_app word.now (tys (types_of tables.old args.now)))) }
+    ensures ok { IfOk result (λ r. IsTypeWhere tables.new r (stands_behind (plain_signature tables.old signature.now) word.now (length args.now)) (ty_app word.now (tys (types_of tables.old args.now)))) }
 {
-    if args.len() < 2 || (args.len() == 2 && word == b"fun".as_slice()) {
+    if !may_stand_behind(word, args.len()) {
         return Ok(None);
     }
     apply_name(tables, alloc, signature, word, args)
+}
+
+/// Whether a name stands behind so many types in parentheses, as `fun` doesn't behind two.
+fn may_stand_behind(word: &[u8], count: usize) -> bool
+    ensures { result ≡ may_stand_behind word.now count }
+{
+    count > 1 && !(count == 2 && word == b"fun".as_slice())
 }
