@@ -2,7 +2,6 @@
 use Rattle.std.proofs.Common.{◌≡◌, refl, ap, ◌∙◌, ℕ, zero, suc, List, [], ◌∷◌, Option, Some, None}
 use Rattle.std.specs.Prelude.{slice_get}
 use Rattle.hol_terms.specs.Text.{Text}
-use Rattle.strict_reading.specs.Steps.{either}
 use Rattle.strict_reading.specs.Words.{behind}
 use Rattle.strict_reading.proofs.Steps.{either_none, either_some}
 use Rattle.std.specs.Prelude.{codes}

@@ -1,8 +1,6 @@
 -- What tables that grew still have.
-use Rattle.std.proofs.Common.{◌≡◌, List, [], ◌∷◌, ◌++◌, refl, sym, ap, ◌∙◌, append_assoc}
-use Rattle.hol_terms.specs.Ty.{Ty}
-use Rattle.hol_terms.specs.Name.{Name}
-use Rattle.hol_terms.specs.Tm.{Tm, tm_free, FreeVar}
+use Rattle.std.proofs.Common.{◌≡◌, List, [], ◌∷◌, ◌++◌, refl, sym, ap, ◌∙◌}
+use Rattle.hol_terms.specs.Tm.{Tm, tm_free}
 use Rattle.flat_terms.specs.declared.nodes.NameId.{NameId}
 use Rattle.flat_terms.specs.declared.nodes.TypeId.{TypeId}
 use Rattle.flat_terms.specs.declared.nodes.TermId.{TermId}

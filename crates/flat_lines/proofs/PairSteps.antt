@@ -1,14 +1,14 @@
 -- Pairs up to the end of a line, one after the other.
-use Rattle.std.proofs.Common.{◌≡◌, refl, sym, ap, ◌∙◌, ℕ, zero, suc, ◌+◌, ◌<◌, ◌≤◌, Bool, true, false, ◌==◌, List, [], ◌∷◌, ◌++◌, append_assoc, Option, Some, None, length, length-append, arith}
+use Rattle.std.proofs.Common.{◌≡◌, refl, sym, ap, ◌∙◌, ℕ, zero, suc, ◌<◌, ◌≤◌, true, false, ◌==◌, List, [], ◌∷◌, ◌++◌, append_assoc, Option, Some, None, length, length-append, arith}
 use Rattle.std.specs.Prelude.{codes}
 use Rattle.hol_terms.specs.Text.{Text}
 use Rattle.hol_terms.specs.Signature.{Signature}
 use Rattle.hol_logs.specs.Step.{type_pair_text, pair_text}
-use Rattle.strict_reading.specs.Steps.{◌>>=◌, when, either}
+use Rattle.strict_reading.specs.Steps.{◌>>=◌, when}
 use Rattle.strict_reading.specs.Words.{behind}
 use Rattle.strict_reading.proofs.Steps.{bind_same, either_same, either_none, either_some}
 use Rattle.strict_reading.proofs.Words.{behind_long}
-use Rattle.strict_lines.specs.Operands.{reads_type_pair, reads_pair, others_step, pairs_below, reads_type_pairs, reads_pairs}
+use Rattle.strict_lines.specs.Operands.{reads_type_pair, reads_pair, others_step, pairs_below}
 use Rattle.strict_lines.proofs.Operands.{IsSound, type_pair_sound, pair_sound}
 use Rattle.flat_lines.proofs.Readings.{bind_none, bind_on}
 

@@ -1,13 +1,12 @@
 -- Pairs of variables and terms that a loop has read.
-use Rattle.std.proofs.Common.{◌≡◌, refl, sym, ap, ◌∙◌, subst, true, false, ◌==◌, List, [], ◌∷◌, ◌++◌, Option, Some, None, length, ◌<◌, ◌≤◌, arith}
+use Rattle.std.proofs.Common.{◌≡◌, sym, ap, ◌∙◌, subst, true, false, ◌==◌, List, [], ◌∷◌, ◌++◌, Some, None, length, ◌<◌, arith}
 use Rattle.std.specs.Prelude.{codes}
 use Rattle.hol_terms.specs.Tm.{Tm, FreeVar}
 use Rattle.hol_terms.specs.Text.{Text}
 use Rattle.strict_reading.specs.Words.{behind}
 use Rattle.strict_lines.specs.Operands.{reads_pair, reads_pairs}
 use Rattle.flat_terms.specs.declared.nodes.TermId.{TermId}
-use Rattle.flat_terms.specs.Plain.{PlainTables, term_of}
-use Rattle.flat_walks.specs.Walk.{var_of}
+use Rattle.flat_terms.specs.Plain.{PlainTables}
 use Rattle.flat_instances.specs.Terms.{term_pairs}
 use Rattle.flat_instances.specs.TablesGrow.{TablesGrow}
 use Rattle.flat_instances.proofs.TablesGrow.{tables_grow_itself, tables_grow_further}
@@ -62,10 +61,12 @@ pub pairs_last : (old t u : PlainTables) (s : FlatNames) (x : Text) (ps qs : Lis
     → IsPairRead u r p → reads_pair (plain_signature t s) rest ≡ Some p → qs ≡ ps ++ (r.variable, r.term) ∷ [] → behind (codes " ; ") r.rest.now ≡ None → true ≡ (length r.rest.now == 0)
     → (reads_pairs (plain_signature old s) x ≡ Some (term_pairs u qs)) × HasPairs u qs
 unfolding reads_pairs
-pairs_last old t u s x ps qs rest r p there f g h e q d z =
-    (goes_last (reads_pair (plain_signature old s)) (pair_shrinks (plain_signature old s)) x (term_pairs t ps) rest p f.goes (same old t s rest f.grows there ∙ e) (ap (behind (codes " ; ")) (left u r p h) ∙ d)
-    (z ∙ ap (λ w. length w == 0) (sym (left u r p h)))
-    ∙ ap Some (appended t u ps qs r p g f.has h q), has_more t u ps qs r p g f.has h q)
+pairs_last old t u s x ps qs rest r p there f g h e q d z = (
+  goes_last (reads_pair (plain_signature old s)) (pair_shrinks (plain_signature old s)) x (term_pairs t ps) rest p f.goes (same old t s rest f.grows there ∙ e) (ap (behind (codes " ; ")) (left u r p h) ∙ d)
+      (z ∙ ap (λ w. length w == 0) (sym (left u r p h)))
+      ∙ ap Some (appended t u ps qs r p g f.has h q),
+  has_more t u ps qs r p g f.has h q,
+)
 
 pub pairs_nowhere : (old t u : PlainTables) (s : FlatNames) (x : Text) (ps : List (TermId × TermId)) (rest : Text) (r : PairRead) (p : (FreeVar × Tm) × Text) → HasSignature old s → PairsSoFar old t s x ps rest
     → IsPairRead u r p → reads_pair (plain_signature t s) rest ≡ Some p → behind (codes " ; ") r.rest.now ≡ None → false ≡ (length r.rest.now == 0) → reads_pairs (plain_signature old s) x ≡ None

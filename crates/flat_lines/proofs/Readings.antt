@@ -2,7 +2,7 @@
 use Rattle.std.proofs.Common.{◌≡◌, refl, sym, ap, ◌∙◌, subst, Bool, true, false, ◌==◌, Option, Some, None, length}
 use Rattle.std.specs.Prelude.{is_some}
 use Rattle.hol_terms.specs.Text.{Text}
-use Rattle.strict_reading.specs.Steps.{◌>>=◌, when, either}
+use Rattle.strict_reading.specs.Steps.{◌>>=◌, when}
 use Rattle.strict_reading.specs.Words.{behind}
 use Rattle.strict_lines.specs.Operands.{parted, ended}
 use Rattle.flat_lines.specs.Reads.{Reads}

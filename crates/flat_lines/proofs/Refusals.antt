@@ -1,5 +1,5 @@
 -- Lines of refusals.
-use Rattle.std.proofs.Common.{◌≡◌, refl, sym, ap, ◌∙◌, subst, ℕ, ◌++◌, append_assoc, Option, Some}
+use Rattle.std.proofs.Common.{◌≡◌, ap, ◌∙◌, ℕ, ◌++◌, append_assoc, Option, Some}
 use Rattle.std.specs.Prelude.{codes}
 use Rattle.hol_terms.specs.Text.{Text}
 use Rattle.hol_logs.specs.Step.{numeral}

@@ -1,5 +1,5 @@
 -- Pairs of type variables and types that a loop has read.
-use Rattle.std.proofs.Common.{◌≡◌, refl, sym, ap, ◌∙◌, subst, true, false, ◌==◌, List, [], ◌∷◌, ◌++◌, Option, Some, None, length, ◌<◌, ◌≤◌, arith}
+use Rattle.std.proofs.Common.{◌≡◌, sym, ap, ◌∙◌, subst, true, false, ◌==◌, List, [], ◌∷◌, ◌++◌, Some, None, length, ◌<◌, arith}
 use Rattle.std.specs.Prelude.{codes}
 use Rattle.hol_terms.specs.Ty.{Ty}
 use Rattle.hol_terms.specs.Name.{Name}
@@ -63,10 +63,12 @@ pub type_pairs_last : (old t u : PlainTables) (s : FlatNames) (x : Text) (ps qs 
     → IsTypePairRead u r p → reads_type_pair (plain_signature t s) rest ≡ Some p → qs ≡ ps ++ (r.variable, r.ty) ∷ [] → behind (codes " ; ") r.rest.now ≡ None → true ≡ (length r.rest.now == 0)
     → (reads_type_pairs (plain_signature old s) x ≡ Some (type_pairs u qs)) × HasTypePairs u qs
 unfolding reads_type_pairs
-type_pairs_last old t u s x ps qs rest r p there f g h e q d z =
-    (goes_last (reads_type_pair (plain_signature old s)) (type_pair_shrinks (plain_signature old s)) x (type_pairs t ps) rest p f.goes (same old t s rest f.grows there ∙ e) (ap (behind (codes " ; ")) (left u r p h) ∙ d)
-    (z ∙ ap (λ w. length w == 0) (sym (left u r p h)))
-    ∙ ap Some (appended t u ps qs r p g f.has h q), has_more t u ps qs r p g f.has h q)
+type_pairs_last old t u s x ps qs rest r p there f g h e q d z = (
+  goes_last (reads_type_pair (plain_signature old s)) (type_pair_shrinks (plain_signature old s)) x (type_pairs t ps) rest p f.goes (same old t s rest f.grows there ∙ e) (ap (behind (codes " ; ")) (left u r p h) ∙ d)
+      (z ∙ ap (λ w. length w == 0) (sym (left u r p h)))
+      ∙ ap Some (appended t u ps qs r p g f.has h q),
+  has_more t u ps qs r p g f.has h q,
+)
 
 pub type_pairs_nowhere : (old t u : PlainTables) (s : FlatNames) (x : Text) (ps : List (NameId × TypeId)) (rest : Text) (r : TypePairRead) (p : (Name × Ty) × Text) → HasSignature old s → TypePairsSoFar old t s x ps rest
     → IsTypePairRead u r p → reads_type_pair (plain_signature t s) rest ≡ Some p → behind (codes " ; ") r.rest.now ≡ None → false ≡ (length r.rest.now == 0) → reads_type_pairs (plain_signature old s) x ≡ None

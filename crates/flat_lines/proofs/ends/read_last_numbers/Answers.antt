@@ -1,4 +1,4 @@
-use Rattle.std.proofs.Common.{ℕ, ◌∙◌, refl}
+use Rattle.std.proofs.Common.{ℕ, ◌∙◌}
 use Rattle.hol_terms.specs.Text.{Text}
 use Rattle.std.specs.Prelude.{codes, Option}
 use Rattle.strict_lines.specs.Operands.{reads_number}
@@ -27,6 +27,8 @@ pub returns : goal.returns
 returns c =
     let k = c.in-Some.ensures in
     let y = c.in-Some-behind.rest.now in
-    let l = c.in-Some-read_last_number.ensures in
-    ((k.0.0, l.0),
-    parted_at (reads_number c.args.text.now) (codes " ") last k.0 c.in-Some.read.rest.now y k.1 k.2.1 c.in-Some-behind.ensures.some ∙ ended_made (reads_number y) (λ n. (k.0.0, n)) ∙ bind_on _ _ l.0 l.1, (k.2.0, l.2))
+    let l = c.in-Some-read_last_number.ensures in (
+      (k.0.0, l.0),
+      parted_at (reads_number c.args.text.now) (codes " ") last k.0 c.in-Some.read.rest.now y k.1 k.2.1 c.in-Some-behind.ensures.some ∙ ended_made (reads_number y) (λ n. (k.0.0, n)) ∙ bind_on _ _ l.0 l.1,
+      (k.2.0, l.2),
+    )

@@ -1,4 +1,4 @@
-use Rattle.std.proofs.Common.{refl, sym, ◌∙◌, ap, not}
+use Rattle.std.proofs.Common.{refl, sym, ◌∙◌}
 use Rattle.std.specs.Prelude.{[]}
 use Rattle.strict_reading.specs.Terms.{reads_term}
 use Rattle.flat_terms.specs.Plain.{term_of}
@@ -18,7 +18,9 @@ returns-then-not-is_empty-clause-ok c =
 
 pub returns-clause-ok : goal.returns-clause-ok
 returns-clause-ok c =
-    let k = a_term c.read_term.new.tables c.in_ok-read.field-0 _ c.in-Some.read c.in_ok-read.ensures.ok c.in-Some.is in
-    (term_of c.read_term.new.tables c.in-Some.read.term,
-    ended_at (reads_term (plain_signature c.args.tables.now c.args.signature.now) [] c.args.text.now) (λ t. t) (term_of c.read_term.new.tables c.in-Some.read.term, c.in-Some.read.rest.now) c.in-Some.read.rest.now k.1 refl
-    (sym c.if-not-is_empty.false ∙ c.is_empty.ensures), (k.0, refl))
+    let k = a_term c.read_term.new.tables c.in_ok-read.field-0 _ c.in-Some.read c.in_ok-read.ensures.ok c.in-Some.is in (
+      term_of c.read_term.new.tables c.in-Some.read.term,
+      ended_at (reads_term (plain_signature c.args.tables.now c.args.signature.now) [] c.args.text.now) (λ t. t) (term_of c.read_term.new.tables c.in-Some.read.term, c.in-Some.read.rest.now) c.in-Some.read.rest.now k.1 refl
+          (sym c.if-not-is_empty.false ∙ c.is_empty.ensures),
+      (k.0, refl),
+    )

@@ -1,4 +1,4 @@
-use Rattle.std.proofs.Common.{◌≡◌, ℕ, refl, sym, ap, ◌∙◌, Option, Some, None, false}
+use Rattle.std.proofs.Common.{◌≡◌, ℕ, sym, ap, ◌∙◌, Option, None, false}
 use Rattle.std.specs.Prelude.{codes, is_some}
 use Rattle.hol_terms.specs.Text.{Text}
 use Rattle.strict_lines.specs.Operands.{reads_number, reads_word, parted}

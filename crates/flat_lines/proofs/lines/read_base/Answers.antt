@@ -1,4 +1,4 @@
-use Rattle.std.proofs.Common.{◌≡◌, refl, ◌∙◌}
+use Rattle.std.proofs.Common.{refl, ◌∙◌}
 use Rattle.hol_logs.specs.Line.{line_base}
 use Rattle.strict_lines.specs.Operands.{reads_number}
 use Rattle.flat_lines.proofs.Readings.{ended_made, bind_none, bind_on}

@@ -1,4 +1,4 @@
-use Rattle.std.proofs.Common.{◌≡◌, refl, sym, ap, ◌∙◌, Some}
+use Rattle.std.proofs.Common.{refl, sym, ap, Some}
 use Rattle.hol_logs.specs.Line.{line_first}
 use Rattle.strict_reading.specs.Steps.{when}
 use Rattle.flat_lines.proofs.lines.read_first.Goals as goal

@@ -1,4 +1,4 @@
-use Rattle.std.proofs.Common.{◌≡◌, ℕ, refl, sym, ap, ◌∙◌, Option, Some, []}
+use Rattle.std.proofs.Common.{ℕ, sym, ap, ◌∙◌, Option, []}
 use Rattle.std.specs.Prelude.{codes}
 use Rattle.hol_terms.specs.Name.{Name}
 use Rattle.hol_terms.specs.Signature.{Signature}
@@ -7,7 +7,6 @@ use Rattle.hol_logs.specs.Line.{LogLine, line_name}
 use Rattle.strict_reading.specs.Terms.{reads_term}
 use Rattle.strict_lines.specs.Operands.{reads_number, reads_name, parted}
 use Rattle.strict_lines.specs.Lines.{term_line}
-use Rattle.flat_terms.specs.Plain.{name_of, term_of}
 use Rattle.flat_instances.proofs.TablesGrow.{tables_grow_further}
 use Rattle.flat_signatures.specs.FlatNames.{plain_signature}
 use Rattle.flat_signatures.proofs.Signatures.{signature_there, signature_same}
@@ -84,9 +83,10 @@ returns-clause-ok c =
     let g = c.in_ok-term.ensures.grows in
     let k = gave_some (IsNameRead t) c.in_ok-read.field-0 _ v c.in_ok-read.ensures.ok c.in-Some.is in
     let l = gave_some (IsTerm u) c.in_ok-term.field-0 _ c.in-Some-2.term c.in_ok-term.ensures.ok c.in-Some-2.is in
-    let same = signature_same c.args.tables.now t c.args.signature.now c.in_ok-read.ensures.grows c.requires in
-    (line_name k.0.0 n.0.0 l.0,
-    parted_at (reads_name c.args.text.now) (codes " ") (tail s) k.0 v.rest.now y k.1 (sym (ap (λ p. p.1) k.2.1)) c.in-Some-behind.ensures.some
-    ∙ parted_at (reads_number y) (codes " ") (last s k.0.0) n.0 c.in-Some-read_number.step.rest.now z n.1 n.2.1 c.in-Some-behind-2.ensures.some
-    ∙ ended_made (reads_term s [] z) (line_name k.0.0 n.0.0) ∙ bind_on (term_line s (λ x. x) z) _ l.0 (ap (λ r. term_line r (λ x. x) z) (sym same) ∙ l.1),
-    (g.has_name v.name k.2.0, l.2.0, (n.0.0, n.2.0, λ i. line_name ((ap (λ p. p.0) k.2.1 ∙ sym (g.same_name v.name k.2.0)) i) n.0.0 (l.2.1 i))))
+    let same = signature_same c.args.tables.now t c.args.signature.now c.in_ok-read.ensures.grows c.requires in (
+      line_name k.0.0 n.0.0 l.0,
+      parted_at (reads_name c.args.text.now) (codes " ") (tail s) k.0 v.rest.now y k.1 (sym (ap (λ p. p.1) k.2.1)) c.in-Some-behind.ensures.some
+          ∙ parted_at (reads_number y) (codes " ") (last s k.0.0) n.0 c.in-Some-read_number.step.rest.now z n.1 n.2.1 c.in-Some-behind-2.ensures.some
+          ∙ ended_made (reads_term s [] z) (line_name k.0.0 n.0.0) ∙ bind_on (term_line s (λ x. x) z) _ l.0 (ap (λ r. term_line r (λ x. x) z) (sym same) ∙ l.1),
+      (g.has_name v.name k.2.0, l.2.0, (n.0.0, n.2.0, λ i. line_name ((ap (λ p. p.0) k.2.1 ∙ sym (g.same_name v.name k.2.0)) i) n.0.0 (l.2.1 i))),
+    )

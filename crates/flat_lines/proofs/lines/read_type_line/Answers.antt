@@ -1,11 +1,10 @@
-use Rattle.std.proofs.Common.{◌≡◌, refl, sym, ap, ◌∙◌, Option}
+use Rattle.std.proofs.Common.{sym, ap, ◌∙◌, Option}
 use Rattle.std.specs.Prelude.{codes}
 use Rattle.hol_terms.specs.Name.{Name}
 use Rattle.hol_terms.specs.Text.{Text}
 use Rattle.hol_logs.specs.Line.{LogLine, line_type}
 use Rattle.strict_lines.specs.Operands.{reads_number, reads_name}
 use Rattle.strict_lines.specs.Lines.{number_line}
-use Rattle.flat_terms.specs.Plain.{name_of}
 use Rattle.flat_lines.specs.Operands.{IsNameRead}
 use Rattle.flat_lines.proofs.Readings.{parted_none, parted_before, parted_at, ended_made, bind_none, bind_on, gave_none, gave_some}
 use Rattle.flat_lines.proofs.lines.read_type_line.Goals as goal
@@ -34,7 +33,8 @@ returns-clause-ok c =
     let n = c.in-Some.read in
     let k = gave_some (IsNameRead t) c.in_ok-read.field-0 _ n c.in_ok-read.ensures.ok c.in-Some.is in
     let y = c.in-Some-behind.rest.now in
-    let l = c.in-Some-read_last_number.ensures in
-    (line_type k.0.0 l.0,
-    parted_at (reads_name c.args.text.now) (codes " ") last k.0 n.rest.now y k.1 (sym (ap (λ p. p.1) k.2.1)) c.in-Some-behind.ensures.some ∙ ended_made (reads_number y) (line_type k.0.0) ∙ bind_on _ _ l.0 l.1,
-    (k.2.0, (l.0, l.2, ap (λ p. line_type p.0 l.0) k.2.1)))
+    let l = c.in-Some-read_last_number.ensures in (
+      line_type k.0.0 l.0,
+      parted_at (reads_name c.args.text.now) (codes " ") last k.0 n.rest.now y k.1 (sym (ap (λ p. p.1) k.2.1)) c.in-Some-behind.ensures.some ∙ ended_made (reads_number y) (line_type k.0.0) ∙ bind_on _ _ l.0 l.1,
+      (k.2.0, (l.0, l.2, ap (λ p. line_type p.0 l.0) k.2.1)),
+    )

@@ -1,4 +1,4 @@
-use Rattle.std.proofs.Common.{◌≡◌, refl, sym, ap, ◌∙◌, Option, Some, []}
+use Rattle.std.proofs.Common.{refl, sym, ap, ◌∙◌, Option, Some, []}
 use Rattle.std.specs.Prelude.{codes}
 use Rattle.hol_terms.specs.Tm.{Tm, FreeVar}
 use Rattle.hol_terms.specs.Text.{Text}
@@ -69,8 +69,9 @@ returns-clause-ok c =
     let k = a_free t c.in_ok-variable.field-0 _ v c.in_ok-variable.ensures.ok c.in-Some.is in
     let l = a_term u c.in_ok-read.field-0 _ n c.in_ok-read.ensures.ok c.in-Some-2.is in
     let same = signature_same c.args.tables.now t c.args.signature.now c.in_ok-variable.ensures.grows c.requires in
-    let g = c.in_ok-read.ensures.grows in
-    (((var_of (term_of u v.term), term_of u n.term), n.rest.now),
-    parted_at (reads_free s c.args.text.now) (codes " := ") (tail s) (var_of (term_of t v.term), v.rest.now) v.rest.now y k.1 refl c.in-Some-behind.ensures.some
-    ∙ bind_on (reads_term s [] y) _ (term_of u n.term, n.rest.now) (ap (λ r. reads_term r [] y) (sym same) ∙ l.1) ∙ ap (λ w. Some ((w, term_of u n.term), n.rest.now)) (sym (same_variable t u v.term g k.0)),
-    (variable_there t u v.term g k.0, l.0, refl))
+    let g = c.in_ok-read.ensures.grows in (
+      ((var_of (term_of u v.term), term_of u n.term), n.rest.now),
+      parted_at (reads_free s c.args.text.now) (codes " := ") (tail s) (var_of (term_of t v.term), v.rest.now) v.rest.now y k.1 refl c.in-Some-behind.ensures.some
+          ∙ bind_on (reads_term s [] y) _ (term_of u n.term, n.rest.now) (ap (λ r. reads_term r [] y) (sym same) ∙ l.1) ∙ ap (λ w. Some ((w, term_of u n.term), n.rest.now)) (sym (same_variable t u v.term g k.0)),
+      (variable_there t u v.term g k.0, l.0, refl),
+    )

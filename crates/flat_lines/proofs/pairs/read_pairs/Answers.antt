@@ -1,4 +1,4 @@
-use Rattle.std.proofs.Common.{◌≡◌, refl, sym, ◌∙◌}
+use Rattle.std.proofs.Common.{refl}
 use Rattle.flat_instances.specs.Terms.{term_pairs}
 use Rattle.flat_instances.proofs.TablesGrow.{tables_grow_further}
 use Rattle.flat_signatures.proofs.Signatures.{signature_there}

@@ -1,4 +1,4 @@
-use Rattle.std.proofs.Common.{◌≡◌, refl, sym, ap, ◌∙◌, Option, Some}
+use Rattle.std.proofs.Common.{refl, sym, ap, ◌∙◌, Option, Some}
 use Rattle.std.specs.Prelude.{codes}
 use Rattle.hol_terms.specs.Name.{Name}
 use Rattle.hol_terms.specs.Ty.{Ty}
@@ -81,10 +81,11 @@ returns-clause-ok c =
     let k = gave_some (IsNameRead t) c.in_ok-variable.field-0 _ v c.in_ok-variable.ensures.ok c.in-Some-2.is in
     let l = a_type u c.in_ok-read.field-0 _ n c.in_ok-read.ensures.ok c.in-Some-3.is in
     let same = signature_same c.args.tables.now t c.args.signature.now c.in_ok-variable.ensures.grows c.requires in
-    let g = c.in_ok-read.ensures.grows in
-    (((name_of u v.name, type_of u n.ty), n.rest.now),
-    bind_on (behind (codes "'") c.args.text.now) (quoted s) x c.in-Some.ensures.some
-    ∙ parted_at (reads_segment x) (codes " := ") (tail s) k.0 v.rest.now y k.1 (sym (ap (λ p. p.1) k.2.1)) c.in-Some-behind.ensures.some
-    ∙ bind_on (reads_type s y) _ (type_of u n.ty, n.rest.now) (ap (λ r. reads_type r y) (sym same) ∙ l.1)
-    ∙ ap (λ w. Some ((w, type_of u n.ty), n.rest.now)) (ap (λ p. p.0) k.2.1 ∙ sym (g.same_name v.name k.2.0)),
-    (g.has_name v.name k.2.0, l.0, refl))
+    let g = c.in_ok-read.ensures.grows in (
+      ((name_of u v.name, type_of u n.ty), n.rest.now),
+      bind_on (behind (codes "'") c.args.text.now) (quoted s) x c.in-Some.ensures.some
+          ∙ parted_at (reads_segment x) (codes " := ") (tail s) k.0 v.rest.now y k.1 (sym (ap (λ p. p.1) k.2.1)) c.in-Some-behind.ensures.some
+          ∙ bind_on (reads_type s y) _ (type_of u n.ty, n.rest.now) (ap (λ r. reads_type r y) (sym same) ∙ l.1)
+          ∙ ap (λ w. Some ((w, type_of u n.ty), n.rest.now)) (ap (λ p. p.0) k.2.1 ∙ sym (g.same_name v.name k.2.0)),
+      (g.has_name v.name k.2.0, l.0, refl),
+    )

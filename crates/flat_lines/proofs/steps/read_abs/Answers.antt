@@ -1,4 +1,4 @@
-use Rattle.std.proofs.Common.{◌≡◌, ℕ, refl, sym, ap, ◌∙◌, Option, Some}
+use Rattle.std.proofs.Common.{refl, ◌∙◌, Option}
 use Rattle.std.specs.Prelude.{codes}
 use Rattle.hol_terms.specs.Tm.{FreeVar}
 use Rattle.hol_terms.specs.Text.{Text}
@@ -45,6 +45,8 @@ returns-clause-ok c =
     let w = var_of (term_of t v.term) in
     let y = c.in-Some-behind.rest.now in
     let l = c.in-Some-read_last_number.ensures in
-    let k = a_free t c.in_ok-variable.field-0 _ v c.in_ok-variable.ensures.ok c.in-Some.is in
-    (step_abs w l.0,
-    parted_at (reads_free s c.args.text.now) (codes " ") last (w, v.rest.now) v.rest.now y k.1 refl c.in-Some-behind.ensures.some ∙ ended_made (reads_number y) (step_abs w) ∙ bind_on _ _ l.0 l.1, (k.0, (l.0, l.2, refl)))
+    let k = a_free t c.in_ok-variable.field-0 _ v c.in_ok-variable.ensures.ok c.in-Some.is in (
+      step_abs w l.0,
+      parted_at (reads_free s c.args.text.now) (codes " ") last (w, v.rest.now) v.rest.now y k.1 refl c.in-Some-behind.ensures.some ∙ ended_made (reads_number y) (step_abs w) ∙ bind_on _ _ l.0 l.1,
+      (k.0, (l.0, l.2, refl)),
+    )

@@ -1,5 +1,5 @@
-use Rattle.std.proofs.Common.{◌≡◌, refl, sym, ap, ◌∙◌, true, false, Some, None, take, drop, arith}
-use Rattle.std.specs.List.{prefix_len, take_while}
+use Rattle.std.proofs.Common.{◌≡◌, sym, ap, ◌∙◌, true, false, Some, None, take, drop, arith}
+use Rattle.std.specs.List.{take_while}
 use Rattle.std.proofs.lemmas.List.Sums.{prefix_len-le-length}
 use Rattle.hol_terms.specs.Text.{Text}
 use Rattle.hol_logs.specs.Line.{is_word}
@@ -20,9 +20,11 @@ split_at-requires c = omega (arith, prefix_len-le-length is_no_space c.args.text
 
 pub returns-then-is_word : goal.returns-then-is_word
 returns-then-is_word c =
-    let x = c.args.text.now in
-    ((take_while is_no_space x, drop_while is_no_space x),
-    a_word x c.split_at.result.0.now (c.split_at.ensures.front ∙ ap (λ n. take n x) c.word_len.ensures) (sym c.is_word.ensures ∙ c.if-is_word.true), c.split_at.ensures.back ∙ ap (λ n. drop n x) c.word_len.ensures)
+    let x = c.args.text.now in (
+      (take_while is_no_space x, drop_while is_no_space x),
+      a_word x c.split_at.result.0.now (c.split_at.ensures.front ∙ ap (λ n. take n x) c.word_len.ensures) (sym c.is_word.ensures ∙ c.if-is_word.true),
+      c.split_at.ensures.back ∙ ap (λ n. drop n x) c.word_len.ensures,
+    )
 
 pub returns-else-is_word : goal.returns-else-is_word
 returns-else-is_word c =

@@ -36,7 +36,9 @@ pub returns-clause-ok : goal.returns-clause-ok
 returns-clause-ok c =
     let u = c.put_name.new.tables in
     let n = c.in_ok-name.name in
-    let rest = c.split_word.result.1.now in
-    ((name_of u n, rest),
-    some c.args.text.now c.split_word.result.0.now rest c.split_word.ensures.word c.split_word.ensures.rest (ap is_segment (sym c.in-Ok.ensures.cases.0) ∙ sym c.is_segment.ensures ∙ c.if-not-is_segment.false)
-    ∙ ap (λ v. Some (v, rest)) (sym (c.in_ok-name.ensures.ok.text ∙ c.in-Ok.ensures.cases.0)), (c.in_ok-name.ensures.ok.has, refl))
+    let rest = c.split_word.result.1.now in (
+      (name_of u n, rest),
+      some c.args.text.now c.split_word.result.0.now rest c.split_word.ensures.word c.split_word.ensures.rest (ap is_segment (sym c.in-Ok.ensures.cases.0) ∙ sym c.is_segment.ensures ∙ c.if-not-is_segment.false)
+          ∙ ap (λ v. Some (v, rest)) (sym (c.in_ok-name.ensures.ok.text ∙ c.in-Ok.ensures.cases.0)),
+      (c.in_ok-name.ensures.ok.has, refl),
+    )
