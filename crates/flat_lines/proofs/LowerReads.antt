@@ -7,8 +7,8 @@ use Rattle.flat_terms.specs.Plain.{PlainTables, HasType, HasTerm, type_of, term_
 use Rattle.flat_walks.specs.Walk.{var_of, IsVariable}
 use Rattle.flat_signatures.specs.declared.types.TypeRead.{TypeRead}
 use Rattle.flat_signatures.specs.Reads.{IsTypeRead}
-use Rattle.flat_reading.specs.declared.terms.TermRead.{TermRead}
-use Rattle.flat_reading.specs.TermsRead.{IsTermRead, IsFreeRead}
+use Rattle.flat_reading.specs.declared.atoms.TermRead.{TermRead}
+use Rattle.flat_reading.specs.Reads.{IsTermRead, IsFreeRead}
 
 pub no_term : (t : PlainTables) (o : Option TermRead) (p : Option (Tm × Text)) → IsTermRead t o p → o ≡ None → p ≡ None
 no_term t o p h e = subst (λ v. IsTermRead t v p) e h

@@ -8,7 +8,8 @@ ghost use Rattle.flat_lines.specs.Reads.{Reads};
 ghost use Rattle.flat_lines.specs.Operands.{IsTypePairRead, IsPairRead, AreTypePairs, ArePairs};
 
 use crate::words::read_segment;
-use flat_reading::terms::{read_free, read_term};
+use flat_reading::atoms::read_free;
+use flat_reading::terms::read_term;
 use flat_signatures::signature::FlatSignature;
 use flat_signatures::types::read_type;
 use flat_signatures::words::behind;

@@ -10,7 +10,7 @@ ghost use Rattle.flat_lines.specs.Lines.{IsFlatStep};
 use crate::ends::{read_last_number, read_last_numbers, read_last_term};
 use crate::numbers::{Number, read_number};
 use crate::pairs::{read_pairs, read_type_pairs};
-use flat_reading::terms::read_free;
+use flat_reading::atoms::read_free;
 use flat_signatures::signature::FlatSignature;
 use flat_signatures::words::behind;
 use flat_terms::nodes::{NameId, TermId, TypeId};
