@@ -6,5 +6,4 @@ pub mod Grown
 pub mod Refusals
 pub mod PairSteps
 pub mod PairsSoFar
-pub mod TypePairsSoFar
 pub mod Forms
