@@ -1,0 +1,9 @@
+pub mod Fronts
+pub mod Numerals
+pub mod Readings
+pub mod LowerReads
+pub mod Grown
+pub mod Refusals
+pub mod PairSteps
+pub mod PairsSoFar
+pub mod Forms

@@ -1,0 +1,4 @@
+pub mod Numerals
+pub mod Operands
+pub mod Pairs
+pub mod Forms
