@@ -35,7 +35,7 @@ stays : (n : ℕ) (b : Bool) (ds : List Definition) → Stands n b ds → Stands
 stays n true ds h = subst (IsPrefix (base n)) (sym (append-nil ds)) h
 stays n false ds h = subst (λ es. IsPrefix es (base n)) (sym (append-nil ds)) h
 
-defines_more : (n : ℕ) (b : Bool) (ds : List Definition) (d : Definition) → cond b false (not (is_next_base n ds d)) ≡ false → Stands n b ds → Stands n (b || false) (ds ++ d ∷ [])
+pub defines_more : (n : ℕ) (b : Bool) (ds : List Definition) (d : Definition) → cond b false (not (is_next_base n ds d)) ≡ false → Stands n b ds → Stands n (b || false) (ds ++ d ∷ [])
 defines_more n true ds d e h = (h.0 ++ d ∷ [], ap (λ es. es ++ d ∷ []) h.1 ∙ append_assoc (base n) h.0 (d ∷ []))
 defines_more n false ds d e h =
     let found = found_next d (slice_get (base n) (length ds)) (not-false _ e) in
