@@ -1,12 +1,12 @@
 -- Terms that are made of others, test by test.
-use Rattle.std.proofs.Common.{◌≡◌, ◌⊎◌, Bool, true, false, cond, bytes_eq, List, [], ◌∷◌, Option, Some, None, refl, ap, sym, ◌∙◌, true≢false}
+use Rattle.std.proofs.Common.{◌≡◌, Bool, true, false, cond, bytes_eq, List, [], ◌∷◌, Option, Some, None, refl, ap, sym, ◌∙◌, true≢false}
 use Rattle.std.specs.Prelude.{codes}
 use Rattle.std.specs.Str.{is_utf8}
 use Rattle.std.proofs.lemmas.Slice.Eq.{bytes_eq-Decides}
 use Rattle.hol_terms.specs.Name.{Name}
 use Rattle.hol_terms.specs.Ty.{Ty}
 use Rattle.hol_terms.specs.Tm.{Tm, tm_comb, tm_abs}
-use Rattle.hol_terms.specs.Signature.{Signature, entry_at, generic_of}
+use Rattle.hol_terms.specs.Signature.{Signature, entry_at}
 use Rattle.hol_terms.specs.Rules.{fits}
 use Rattle.strict_reading.specs.Steps.{◌>>=◌, when}
 use Rattle.strict_reading.specs.Terms.{constant, connected, negated, quantified}

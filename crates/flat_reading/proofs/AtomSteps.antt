@@ -1,5 +1,5 @@
 -- The steps of reading an atom, each as one equation.
-use Rattle.std.proofs.Common.{◌≡◌, ℕ, Bool, true, false, List, [], ◌∷◌, ◌++◌, Option, Some, None, Result, Ok, Err, IfOk, refl, ap, sym, subst, ◌∙◌}
+use Rattle.std.proofs.Common.{◌≡◌, ℕ, Bool, true, false, List, [], ◌∷◌, Option, Some, None, Result, Ok, Err, IfOk, refl, ap, sym, subst, ◌∙◌}
 use Rattle.std.specs.Prelude.{codes}
 use Rattle.std.specs.Str.{IsUtf8, is_utf8}
 use Rattle.std.proofs.lemmas.Str.{IsUtf8-from_is_utf8}
@@ -16,7 +16,7 @@ use Rattle.strict_reading.proofs.Steps.{bind_some, when_true, either_none, eithe
 use Rattle.flat_terms.specs.declared.nodes.TypeId.{TypeId}
 use Rattle.flat_terms.specs.declared.nodes.NameId.{NameId}
 use Rattle.flat_terms.specs.declared.nodes.TermId.{TermId}
-use Rattle.flat_terms.specs.Plain.{PlainTables, HasType, HasTypes, HasName, name_of, type_of, types_of, term_of, IsTermAdded}
+use Rattle.flat_terms.specs.Plain.{PlainTables, HasType, HasTypes, name_of, type_of, types_of, term_of, IsTermAdded}
 use Rattle.flat_walks.specs.Walk.{var_of, IsVariable}
 use Rattle.flat_walks.proofs.Steps.{added_has, added_is}
 use Rattle.flat_instances.specs.TablesGrow.{TablesGrow}

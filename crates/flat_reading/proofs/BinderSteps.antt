@@ -1,13 +1,12 @@
 -- Bound variables by their names.
-use Rattle.std.proofs.Common.{◌≡◌, ℕ, zero, suc, ◌+◌, ◌-◌, ◌<◌, ◌≤◌, Bool, true, false, List, [], ◌∷◌, length, drop, get_or, bytes_eq, ◌==◌, Option, Some, None, IfSome, IfNone, refl, ap, sym, ◌∙◌, arith, add-one, drop-cons, drop_of_length-le, length-drop}
-use Rattle.std.specs.Prelude.{codes}
+use Rattle.std.proofs.Common.{◌≡◌, ℕ, suc, ◌+◌, ◌-◌, ◌<◌, ◌≤◌, Bool, true, false, List, [], ◌∷◌, length, drop, get_or, bytes_eq, ◌==◌, Option, Some, None, IfSome, IfNone, refl, ap, ◌∙◌, arith, add-one, drop-cons, drop_of_length-le, length-drop}
 use Rattle.hol_terms.specs.Name.{Name}
 use Rattle.hol_terms.specs.Ty.{Ty}
 use Rattle.hol_terms.specs.Text.{Text, bound_text}
 use Rattle.strict_reading.specs.Words.{behind, if_same}
 use Rattle.strict_reading.specs.Terms.{binder_by, one_further, binder_at}
 use Rattle.flat_terms.specs.declared.nodes.TypeId.{TypeId}
-use Rattle.flat_terms.specs.Plain.{PlainTables, HasTypes, type_of, types_of}
+use Rattle.flat_terms.specs.Plain.{PlainTables, type_of, types_of}
 use Rattle.flat_signatures.proofs.ConstantSteps.{count_of}
 
 -- a binder that so many others lie before
@@ -41,7 +40,6 @@ module _ (t : PlainTables) (bound : List TypeId) (w : Name) (i : ℕ) (d : TypeI
   step b e =
       ap (λ l. binder_at (types_of t l) w) ahead ∙ opened (type_of t (get_or bound i d)) (types_of t (drop (i + 1) bound)) w
       ∙ ap (λ q. binder_by q (type_of t (get_or bound i d)) (binder_at (types_of t (drop (i + 1) bound)) w)) (ap (λ n. bytes_eq w (bound_text n)) (depth_is t bound i h) ∙ e)
-
     where
       ahead : drop i bound ≡ get_or bound i d ∷ drop (i + 1) bound
       ahead = rw (add-one, drop-cons bound i d h) refl

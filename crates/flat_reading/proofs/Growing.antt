@@ -1,17 +1,15 @@
 -- Terms and binders in tables that grow, and what calls give.
-use Rattle.std.proofs.Common.{◌≡◌, Bool, true, false, List, [], ◌∷◌, Option, Some, None, Result, Ok, Err, IfOk, OnErr, refl, ap, sym, subst, ◌∙◌}
+use Rattle.std.proofs.Common.{◌≡◌, List, ◌∷◌, Option, Some, None, Result, Ok, Err, IfOk, OnErr, sym, subst}
 use Rattle.hol_terms.specs.Ty.{Ty, tys}
-use Rattle.hol_terms.specs.Tm.{Tm, FreeVar, tm_comb}
+use Rattle.hol_terms.specs.Tm.{Tm}
 use Rattle.hol_terms.specs.Signature.{Signature, IsTyOver, AreTysOver}
 use Rattle.hol_terms.specs.Text.{Text}
 use Rattle.flat_terms.specs.declared.nodes.TypeId.{TypeId}
 use Rattle.flat_terms.specs.declared.nodes.TermId.{TermId}
-use Rattle.flat_terms.specs.Plain.{PlainTables, HasType, HasTypes, HasTerm, type_of, types_of, term_of, IsTermAdded}
-use Rattle.flat_walks.specs.Number.{IsNumber}
-use Rattle.flat_walks.proofs.Memo.{number_added}
+use Rattle.flat_terms.specs.Plain.{PlainTables, HasType, HasTerm, type_of, types_of, term_of, IsTermAdded}
 use Rattle.flat_instances.specs.TablesGrow.{TablesGrow}
 use Rattle.flat_instances.proofs.TablesGrow.{tables_grow_by_term, tables_grow_same}
-use Rattle.flat_signatures.specs.FlatNames.{FlatNames, plain_signature, HasSignature}
+use Rattle.flat_signatures.specs.FlatNames.{FlatNames, plain_signature}
 use Rattle.flat_signatures.specs.Reads.{IsTermOf}
 use Rattle.flat_signatures.proofs.Signatures.{signature_there, signature_same}
 use Rattle.flat_signatures.proofs.Numbers.{types_there}

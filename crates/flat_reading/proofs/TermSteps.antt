@@ -1,18 +1,18 @@
 -- The steps of reading a term, each as one equation.
-use Rattle.std.proofs.Common.{◌≡◌, ◌+◌, ◌<◌, ◌≤◌, ℕ, Bool, true, false, not, List, [], ◌∷◌, ◌++◌, length, Option, Some, None, refl, ap, sym, subst, ◌∙◌, arith}
+use Rattle.std.proofs.Common.{◌≡◌, ◌<◌, ◌≤◌, ℕ, Bool, true, false, not, List, [], ◌∷◌, length, Option, Some, None, refl, ap, sym, subst, ◌∙◌, arith}
 use Rattle.std.specs.Prelude.{codes}
 use Rattle.hol_terms.specs.Ty.{Ty, tys}
 use Rattle.hol_terms.specs.Tm.{Tm, tm_comb}
 use Rattle.hol_terms.specs.Signature.{Signature, AreTysOver}
 use Rattle.hol_terms.specs.Rules.{fits}
 use Rattle.hol_terms.specs.Text.{Text, bound_text, is_atom, is_plain, sugar, is_sugar}
-use Rattle.strict_reading.specs.Steps.{◌>>=◌, when, choose, either}
+use Rattle.strict_reading.specs.Steps.{◌>>=◌, when, either}
 use Rattle.strict_reading.specs.Words.{behind}
 use Rattle.strict_reading.specs.Types.{reads_type}
-use Rattle.strict_reading.specs.Terms.{TermReadings, enclosed, argument_step, head_step, operand_step, begins_argument, applied_step, behind_operand_step, sign_step, negated, negated_step, binder_step, term_step, reads_term, reads_arguments, term_readings, atom}
+use Rattle.strict_reading.specs.Terms.{TermReadings, enclosed, argument_step, head_step, operand_step, begins_argument, applied_step, sign_step, negated, negated_step, binder_step, reads_term, reads_arguments, term_readings, atom}
 use Rattle.strict_reading.proofs.Steps.{bind_some, bind_same, when_true, choose_true, choose_false, either_none, either_some}
 use Rattle.strict_reading.proofs.Words.{behind_long}
-use Rattle.strict_reading.proofs.TermsAgree.{reads_term_steps, reads_arguments_steps, readings_sound, enclosed_left, head_left, operand_left, argument_left}
+use Rattle.strict_reading.proofs.TermsAgree.{reads_term_steps, reads_arguments_steps, readings_sound, head_left, operand_left, argument_left}
 use Rattle.flat_signatures.proofs.ConstantSteps.{bind_none, when_false, when_none}
 use Rattle.flat_reading.specs.declared.signs.BinderSign.{BinderSign}
 use Rattle.flat_reading.specs.declared.signs.BinderSign.TheVariants.{Lambda, All, Exists}

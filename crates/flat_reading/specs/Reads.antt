@@ -1,11 +1,11 @@
 -- Numbers of terms that a reading gives, beside what it reads.
 use Rattle.std.specs.Prelude.{◌≡◌, List, Option, Some, None}
-use Rattle.hol_terms.specs.Ty.{Ty, tys}
+use Rattle.hol_terms.specs.Ty.{tys}
 use Rattle.hol_terms.specs.Tm.{Tm, FreeVar}
 use Rattle.hol_terms.specs.Signature.{AreTysOver}
 use Rattle.hol_terms.specs.Text.{Text}
 use Rattle.flat_terms.specs.declared.nodes.TypeId.{TypeId}
-use Rattle.flat_terms.specs.Plain.{PlainTables, HasType, HasTypes, HasTerm, type_of, types_of, term_of}
+use Rattle.flat_terms.specs.Plain.{PlainTables, HasTypes, HasTerm, types_of, term_of}
 use Rattle.flat_walks.specs.Walk.{var_of, IsVariable}
 use Rattle.flat_signatures.specs.FlatNames.{FlatNames, plain_signature, HasSignature}
 use Rattle.flat_reading.specs.declared.atoms.TermRead.{TermRead}

@@ -1,6 +1,5 @@
 -- Signs of canonical text.
-use Rattle.std.specs.Prelude.{◌≡◌, ℕ, List, [], ◌∷◌, Option, Some, None, codes}
-use Rattle.hol_terms.specs.Name.{Name}
+use Rattle.std.specs.Prelude.{◌≡◌, ℕ, [], ◌∷◌, Option, Some, None, codes}
 use Rattle.hol_terms.specs.Ty.{Ty}
 use Rattle.hol_terms.specs.Tm.{Tm}
 use Rattle.hol_terms.specs.Typing.{tm_type}
@@ -14,7 +13,6 @@ use Rattle.flat_reading.specs.declared.signs.BinderSign.{BinderSign}
 use Rattle.flat_reading.specs.declared.signs.BinderSign.TheVariants.{Lambda, All, Exists}
 use Rattle.flat_reading.specs.declared.signs.Connective.{Connective}
 use Rattle.flat_reading.specs.declared.signs.Connective.TheVariants.{Equals, And, Or, Implies}
-
 
 abbrev pub some_sign : {A : Type 0} → A → Option Text → Option (A × Text) → Option (A × Text)
 some_sign b None o = o

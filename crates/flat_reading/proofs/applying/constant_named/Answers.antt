@@ -21,7 +21,7 @@ pub returns-clause-grows : goal.returns-clause-grows
 returns-clause-grows c = tables_grow_further c.args.tables.now c.put_name.new.tables c.constant.new.tables c.put_name.ensures.grows c.constant.ensures.grows
 
 pub returns-clause-ok : goal.returns-clause-ok
-returns-clause-ok c = 
+returns-clause-ok c =
     let same = signature_same c.args.tables.now c.put_name.new.tables c.args.signature.now c.put_name.ensures.grows c.requires.signature in
     let kept = types_there c.args.tables.now c.put_name.new.tables c.args.args.now c.put_name.ensures.grows c.requires.args in
     made_result_is c.constant.new.tables c.constant.result _ _ (λ j. constant (same j) ((c.in_ok-name.ensures.ok.text ∙ c.in-Ok.ensures.cases.0) j) (kept.trees j)) c.constant.ensures.ok

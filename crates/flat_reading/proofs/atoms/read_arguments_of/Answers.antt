@@ -48,25 +48,25 @@ pub constant_named-requires-clause-signature : goal.constant_named-requires-clau
 constant_named-requires-clause-signature c = signature_there c.args.tables.now c.read_types.new.tables c.args.signature.now (tables_grow_further c.args.tables.now c.read_type.new.tables c.read_types.new.tables c.read_type.ensures.grows c.read_types.ensures.grows) c.requires
 
 pub constant_named-requires-clause-args : goal.constant_named-requires-clause-args
-constant_named-requires-clause-args c = 
+constant_named-requires-clause-args c =
     let list : c.as_slice-2.result.now ≡ c.in-Some.first.ty ∷ c.in-Some-2.more.types.items =
-        (c.as_slice-2.ensures.value ∙ c.in_ok-extend_from_slice.ensures.items ∙ (λ j. (c.in_ok-push.ensures.items ∙ ap (λ l. l ++ c.in-Some.first.ty ∷ []) c.new-args.ensures.items) j ++ c.as_slice.ensures.value j)) in
+    (c.as_slice-2.ensures.value ∙ c.in_ok-extend_from_slice.ensures.items ∙ (λ j. (c.in_ok-push.ensures.items ∙ ap (λ l. l ++ c.in-Some.first.ty ∷ []) c.new-args.ensures.items) j ++ c.as_slice.ensures.value j)) in
     let first = (type_some c.read_type.new.tables c.in_ok-first.field-0 c.in-Some.first _ c.in_ok-first.ensures.ok c.in-Some.is) in
     let more = (types_some c.read_types.new.tables c.in_ok-more.field-0 c.in-Some-2.more _ c.in_ok-more.ensures.ok c.in-Some-2.is) in
     subst (λ (l : List TypeId). HasTypes c.read_types.new.tables l) (sym list) (c.read_types.ensures.grows.has_type c.in-Some.first.ty first.0, more.0)
 
 pub returns-in_default-3-clause-ok : goal.returns-in_default-3-clause-ok
-returns-in_default-3-clause-ok c = 
+returns-in_default-3-clause-ok c =
     let list : c.as_slice-2.result.now ≡ c.in-Some.first.ty ∷ c.in-Some-2.more.types.items =
-        (c.as_slice-2.ensures.value ∙ c.in_ok-extend_from_slice.ensures.items ∙ (λ j. (c.in_ok-push.ensures.items ∙ ap (λ l. l ++ c.in-Some.first.ty ∷ []) c.new-args.ensures.items) j ++ c.as_slice.ensures.value j)) in
+    (c.as_slice-2.ensures.value ∙ c.in_ok-extend_from_slice.ensures.items ∙ (λ j. (c.in_ok-push.ensures.items ∙ ap (λ l. l ++ c.in-Some.first.ty ∷ []) c.new-args.ensures.items) j ++ c.as_slice.ensures.value j)) in
     let first = (type_some c.read_type.new.tables c.in_ok-first.field-0 c.in-Some.first _ c.in_ok-first.ensures.ok c.in-Some.is) in
     let more = (types_some c.read_types.new.tables c.in_ok-more.field-0 c.in-Some-2.more _ c.in_ok-more.ensures.ok c.in-Some-2.is) in
     no_such (plain_signature c.args.tables.now c.args.signature.now) c.args.word.now c.args.text.now c.in-Some-behind.rest.now _ _ _ first.1 (ap (λ s. reads_types s c.in-Some.first.rest.now) (sym (signature_same c.args.tables.now c.read_type.new.tables c.args.signature.now c.read_type.ensures.grows c.requires)) ∙ more.1) c.in-Some-behind.ensures.some (argument_types c.read_type.new.tables c.read_types.new.tables c.in-Some.first.ty c.in-Some-2.more.types.items c.as_slice-2.result.now c.read_types.ensures.grows first.0 list) (ap (λ s. constant s c.args.word.now (types_of c.read_types.new.tables c.as_slice-2.result.now)) (sym (signature_same c.args.tables.now c.read_types.new.tables c.args.signature.now (tables_grow_further c.args.tables.now c.read_type.new.tables c.read_types.new.tables c.read_type.ensures.grows c.read_types.ensures.grows) c.requires)) ∙ made_none c.constant_named.new.tables c.in_ok-term.field-0 _ c.in_ok-term.ensures.ok c.in_default-3.is)
 
 pub returns-clause-ok : goal.returns-clause-ok
-returns-clause-ok c = 
+returns-clause-ok c =
     let list : c.as_slice-2.result.now ≡ c.in-Some.first.ty ∷ c.in-Some-2.more.types.items =
-        (c.as_slice-2.ensures.value ∙ c.in_ok-extend_from_slice.ensures.items ∙ (λ j. (c.in_ok-push.ensures.items ∙ ap (λ l. l ++ c.in-Some.first.ty ∷ []) c.new-args.ensures.items) j ++ c.as_slice.ensures.value j)) in
+    (c.as_slice-2.ensures.value ∙ c.in_ok-extend_from_slice.ensures.items ∙ (λ j. (c.in_ok-push.ensures.items ∙ ap (λ l. l ++ c.in-Some.first.ty ∷ []) c.new-args.ensures.items) j ++ c.as_slice.ensures.value j)) in
     let first = (type_some c.read_type.new.tables c.in_ok-first.field-0 c.in-Some.first _ c.in_ok-first.ensures.ok c.in-Some.is) in
     let more = (types_some c.read_types.new.tables c.in_ok-more.field-0 c.in-Some-2.more _ c.in_ok-more.ensures.ok c.in-Some-2.is) in
     let made = made_some c.constant_named.new.tables c.in_ok-term.field-0 c.in-Some-3.term _ c.in_ok-term.ensures.ok c.in-Some-3.is in

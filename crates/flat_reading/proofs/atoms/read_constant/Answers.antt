@@ -11,6 +11,6 @@ pub returns-in_default-2-clause-ok : goal.returns-in_default-2-clause-ok
 returns-in_default-2-clause-ok c = plain_none (plain_signature c.args.tables.now c.args.signature.now) c.args.word.now c.args.text.now c.in_default.ensures.none (made_none c.constant_named.new.tables c.in_ok-term.field-0 _ c.in_ok-term.ensures.ok c.in_default-2.is)
 
 pub returns-clause-ok : goal.returns-clause-ok
-returns-clause-ok c = 
+returns-clause-ok c =
     let made = made_some c.constant_named.new.tables c.in_ok-term.field-0 c.in-Some-2.term _ c.in_ok-term.ensures.ok c.in-Some-2.is in
     (made.0, plain_some (plain_signature c.args.tables.now c.args.signature.now) c.args.word.now c.args.text.now _ c.in_default.ensures.none made.1)

@@ -31,7 +31,7 @@ pub returns-clause-grows : goal.returns-clause-grows
 returns-clause-grows c = tables_grow_further c.args.tables.now c.put_name.new.tables c.free.new.self (tables_grow_further c.args.tables.now c.read_type.new.tables c.put_name.new.tables c.read_type.ensures.grows c.put_name.ensures.grows) (tables_grow_by_term c.put_name.new.tables c.free.new.self c.in_ok-term.term _ c.in_ok-term.ensures.ok)
 
 pub returns-clause-ok : goal.returns-clause-ok
-returns-clause-ok c = 
+returns-clause-ok c =
     let read = (type_some c.read_type.new.tables c.in_ok-read.field-0 c.in-Some-2.read _ c.in_ok-read.ensures.ok c.in-Some-2.is) in
     free_added c.read_type.new.tables c.put_name.new.tables c.free.new.self c.in_ok-name.name c.split_word.result.0.now c.in-Some-2.read.ty c.in_ok-term.term _ c.in-Some-behind.rest.now c.put_name.ensures.grows read.0
     (record { has = c.in_ok-name.ensures.ok.has; text = c.in_ok-name.ensures.ok.text ∙ c.in-Ok.ensures.cases.0 }) c.in_ok-term.ensures.ok (free_read (plain_signature c.args.tables.now c.args.signature.now) c.args.text.now c.split_word.result.0.now c.split_word.result.1.now c.split_word.ensures.word c.split_word.ensures.rest c.in-Some.colon.now c.in-Some-behind.rest.now _ (sym (ap is_name c.in-Ok.ensures.cases.0) ∙ sym c.is_name.ensures ∙ c.if-not-is_name.false) c.in-Some.ensures.some read.1 c.in-Some-behind.ensures.some)

@@ -1,4 +1,4 @@
-use Rattle.std.proofs.Common.{◌≡◌, ◌<◌, ◌≤◌, ◌++◌, [], ◌∷◌, length, Some, ap, sym, ◌∙◌, arith}
+use Rattle.std.proofs.Common.{◌≡◌, ◌++◌, [], ◌∷◌, length, Some, ap, sym, ◌∙◌, arith}
 use Rattle.std.specs.Prelude.{codes}
 use Rattle.hol_terms.specs.Text.{bound_text, sugar, is_sugar}
 use Rattle.strict_reading.specs.Words.{behind}
@@ -60,7 +60,7 @@ pub read_operand-returns-in_default-clause-ok : goal.read_operand-returns-in_def
 read_operand-returns-in_default-clause-ok t c = no_operand (plain_signature c.args.tables.now c.args.signature.now) (types_of c.args.tables.now c.args.bound.now) c.args.text.now (term_none c.read_head.new.tables c.in_ok-head.field-0 _ c.in_ok-head.ensures.ok c.in_default.is)
 
 pub read_operand-read_arguments-requires : goal.read_operand-read_arguments-requires
-read_operand-read_arguments-requires t c = 
+read_operand-read_arguments-requires t c =
     let head = (term_some c.read_head.new.tables c.in_ok-head.field-0 c.in-Some.head _ c.in_ok-head.ensures.ok c.in-Some.is) in
     let l = head_rest (plain_signature c.args.tables.now c.args.signature.now) (types_of c.args.tables.now c.args.bound.now) c.requires.over c.args.text.now _ _ head.1 in
     (omega (arith, c.decreases, l), ((binders_there c.args.tables.now c.read_head.new.tables c.args.signature.now c.args.bound.now c.read_head.ensures.grows c.requires), head.0))
@@ -69,7 +69,7 @@ pub read_operand-returns-clause-grows : goal.read_operand-returns-clause-grows
 read_operand-returns-clause-grows t c = tables_grow_further c.args.tables.now c.read_head.new.tables c.read_arguments.new.tables c.read_head.ensures.grows c.read_arguments.ensures.grows
 
 pub read_operand-returns-clause-ok : goal.read_operand-returns-clause-ok
-read_operand-returns-clause-ok t c = 
+read_operand-returns-clause-ok t c =
     let head = (term_some c.read_head.new.tables c.in_ok-head.field-0 c.in-Some.head _ c.in_ok-head.ensures.ok c.in-Some.is) in
     let same : plain_signature c.read_head.new.tables c.args.signature.now ≡ (plain_signature c.args.tables.now c.args.signature.now) = names_same c.args.tables.now c.read_head.new.tables c.args.signature.now c.args.bound.now c.read_head.ensures.grows c.requires in
     let kept : types_of c.read_head.new.tables c.args.bound.now ≡ (types_of c.args.tables.now c.args.bound.now) = bound_same c.args.tables.now c.read_head.new.tables c.args.signature.now c.args.bound.now c.read_head.ensures.grows c.requires in
@@ -88,7 +88,7 @@ pub read_scope-returns-in_default-behind-2-clause-ok : goal.read_scope-returns-i
 read_scope-returns-in_default-behind-2-clause-ok t c = no_dot (plain_signature c.args.tables.now c.args.signature.now) (types_of c.args.tables.now c.args.bound.now) c.args.text.now c.in-Some.colon.now c.in-Some-behind.ty_text.now _ (ap (λ n. behind (bound_text n) c.args.text.now) (count_of c.args.tables.now c.args.bound.now) ∙ c.in-Some.ensures.some) c.in-Some-behind.ensures.some (type_some c.read_type.new.tables c.in_ok-read.field-0 c.in-Some-2.read _ c.in_ok-read.ensures.ok c.in-Some-2.is).1 c.in_default-behind-2.ensures.none
 
 pub read_scope-read_below-requires : goal.read_scope-read_below-requires
-read_scope-read_below-requires t c = 
+read_scope-read_below-requires t c =
     let inner : c.as_slice.result.now ≡ c.in-Some-2.read.ty ∷ c.args.bound.now = (c.as_slice.ensures.value ∙ c.in_ok-extend_from_slice.ensures.items ∙ ap (λ l. l ++ c.args.bound.now) (c.in_ok-push.ensures.items ∙ ap (λ l. l ++ c.in-Some-2.read.ty ∷ []) c.new-inner.ensures.items)) in
     let read = (type_some c.read_type.new.tables c.in_ok-read.field-0 c.in-Some-2.read _ c.in_ok-read.ensures.ok c.in-Some-2.is) in
     let l1 = behind_long (bound_text (length (types_of c.args.tables.now c.args.bound.now))) c.args.text.now c.in-Some.colon.now (ap (λ n. behind (bound_text n) c.args.text.now) (count_of c.args.tables.now c.args.bound.now) ∙ c.in-Some.ensures.some) in
@@ -108,7 +108,7 @@ pub read_scope-returns-clause-grows : goal.read_scope-returns-clause-grows
 read_scope-returns-clause-grows t c = tables_grow_further c.args.tables.now c.read_type.new.tables c.read_below.new.tables c.read_type.ensures.grows c.read_below.ensures.grows
 
 pub read_scope-returns-in_default-3-clause-ok : goal.read_scope-returns-in_default-3-clause-ok
-read_scope-returns-in_default-3-clause-ok t c = 
+read_scope-returns-in_default-3-clause-ok t c =
     let inner : c.as_slice.result.now ≡ c.in-Some-2.read.ty ∷ c.args.bound.now = (c.as_slice.ensures.value ∙ c.in_ok-extend_from_slice.ensures.items ∙ ap (λ l. l ++ c.args.bound.now) (c.in_ok-push.ensures.items ∙ ap (λ l. l ++ c.in-Some-2.read.ty ∷ []) c.new-inner.ensures.items)) in
     let read = (type_some c.read_type.new.tables c.in_ok-read.field-0 c.in-Some-2.read _ c.in_ok-read.ensures.ok c.in-Some-2.is) in
     let same : plain_signature c.read_type.new.tables c.args.signature.now ≡ (plain_signature c.args.tables.now c.args.signature.now) = names_same c.args.tables.now c.read_type.new.tables c.args.signature.now c.args.bound.now c.read_type.ensures.grows c.requires in
@@ -116,14 +116,16 @@ read_scope-returns-in_default-3-clause-ok t c =
     no_body (plain_signature c.args.tables.now c.args.signature.now) (types_of c.args.tables.now c.args.bound.now) c.args.text.now c.in-Some.colon.now c.in-Some-behind.ty_text.now c.in-Some-behind-2.body_text.now _ _ (ap (λ n. behind (bound_text n) c.args.text.now) (count_of c.args.tables.now c.args.bound.now) ∙ c.in-Some.ensures.some) c.in-Some-behind.ensures.some read.1 c.in-Some-behind-2.ensures.some (ap (types_of c.read_type.new.tables) inner ∙ (λ j. type_of c.read_type.new.tables c.in-Some-2.read.ty ∷ kept j)) (ap (λ s. reads_term s (types_of c.read_type.new.tables c.as_slice.result.now) c.in-Some-behind-2.body_text.now) (sym same) ∙ (term_none c.read_below.new.tables c.in_ok-body.field-0 _ c.in_ok-body.ensures.ok c.in_default-3.is))
 
 pub read_scope-returns-clause-ok : goal.read_scope-returns-clause-ok
-read_scope-returns-clause-ok t c = 
+read_scope-returns-clause-ok t c =
     let inner : c.as_slice.result.now ≡ c.in-Some-2.read.ty ∷ c.args.bound.now = (c.as_slice.ensures.value ∙ c.in_ok-extend_from_slice.ensures.items ∙ ap (λ l. l ++ c.args.bound.now) (c.in_ok-push.ensures.items ∙ ap (λ l. l ++ c.in-Some-2.read.ty ∷ []) c.new-inner.ensures.items)) in
     let read = (type_some c.read_type.new.tables c.in_ok-read.field-0 c.in-Some-2.read _ c.in_ok-read.ensures.ok c.in-Some-2.is) in
     let same : plain_signature c.read_type.new.tables c.args.signature.now ≡ (plain_signature c.args.tables.now c.args.signature.now) = names_same c.args.tables.now c.read_type.new.tables c.args.signature.now c.args.bound.now c.read_type.ensures.grows c.requires in
     let kept : types_of c.read_type.new.tables c.args.bound.now ≡ (types_of c.args.tables.now c.args.bound.now) = bound_same c.args.tables.now c.read_type.new.tables c.args.signature.now c.args.bound.now c.read_type.ensures.grows c.requires in
-    let body = (term_some c.read_below.new.tables c.in_ok-body.field-0 c.in-Some-3.body _ c.in_ok-body.ensures.ok c.in-Some-3.is) in
-    (c.read_below.ensures.grows.has_type c.in-Some-2.read.ty read.0, body.0,
-     scope_read (plain_signature c.args.tables.now c.args.signature.now) (types_of c.args.tables.now c.args.bound.now) c.args.text.now c.in-Some.colon.now c.in-Some-behind.ty_text.now c.in-Some-behind-2.body_text.now _ _ _ (ap (λ n. behind (bound_text n) c.args.text.now) (count_of c.args.tables.now c.args.bound.now) ∙ c.in-Some.ensures.some) c.in-Some-behind.ensures.some read.1 c.in-Some-behind-2.ensures.some (ap (types_of c.read_type.new.tables) inner ∙ (λ j. type_of c.read_type.new.tables c.in-Some-2.read.ty ∷ kept j)) (ap (λ s. reads_term s (types_of c.read_type.new.tables c.as_slice.result.now) c.in-Some-behind-2.body_text.now) (sym same) ∙ body.1) ∙ ap (λ u. Some (record { ty = u; body = term_of c.read_below.new.tables c.in-Some-3.body.term }, c.in-Some-3.body.rest.now)) (sym (c.read_below.ensures.grows.same_type c.in-Some-2.read.ty read.0)))
+    let body = (term_some c.read_below.new.tables c.in_ok-body.field-0 c.in-Some-3.body _ c.in_ok-body.ensures.ok c.in-Some-3.is) in (
+      c.read_below.ensures.grows.has_type c.in-Some-2.read.ty read.0,
+      body.0,
+      scope_read (plain_signature c.args.tables.now c.args.signature.now) (types_of c.args.tables.now c.args.bound.now) c.args.text.now c.in-Some.colon.now c.in-Some-behind.ty_text.now c.in-Some-behind-2.body_text.now _ _ _ (ap (λ n. behind (bound_text n) c.args.text.now) (count_of c.args.tables.now c.args.bound.now) ∙ c.in-Some.ensures.some) c.in-Some-behind.ensures.some read.1 c.in-Some-behind-2.ensures.some (ap (types_of c.read_type.new.tables) inner ∙ (λ j. type_of c.read_type.new.tables c.in-Some-2.read.ty ∷ kept j)) (ap (λ s. reads_term s (types_of c.read_type.new.tables c.as_slice.result.now) c.in-Some-behind-2.body_text.now) (sym same) ∙ body.1) ∙ ap (λ u. Some (record { ty = u; body = term_of c.read_below.new.tables c.in-Some-3.body.term }, c.in-Some-3.body.rest.now)) (sym (c.read_below.ensures.grows.same_type c.in-Some-2.read.ty read.0)),
+    )
 
 pub read_below-read_scope-requires : goal.read_below-read_scope-requires
 read_below-read_scope-requires t c = let l = binder_shorter c.args.text.now c.in-Some.behind_sign.now c.in-Some.sign c.in-Some.ensures.some in (omega (arith, c.decreases, l), c.requires)
@@ -144,14 +146,14 @@ pub read_below-returns-in-Some-clause-grows : goal.read_below-returns-in-Some-cl
 read_below-returns-in-Some-clause-grows t c = tables_grow_further c.args.tables.now c.read_scope.new.tables c.bind_by.new.tables c.read_scope.ensures.grows c.bind_by.ensures.grows
 
 pub read_below-returns-in_default-3-clause-ok : goal.read_below-returns-in_default-3-clause-ok
-read_below-returns-in_default-3-clause-ok t c = 
+read_below-returns-in_default-3-clause-ok t c =
     let scope = scope_some c.read_scope.new.tables c.in_ok-scope.field-0 c.in-Some-2.scope _ c.in_ok-scope.ensures.ok c.in-Some-2.is in
     let same : plain_signature c.read_scope.new.tables c.args.signature.now ≡ (plain_signature c.args.tables.now c.args.signature.now) = names_same c.args.tables.now c.read_scope.new.tables c.args.signature.now c.args.bound.now c.read_scope.ensures.grows c.requires in
     let kept : types_of c.read_scope.new.tables c.args.bound.now ≡ (types_of c.args.tables.now c.args.bound.now) = bound_same c.args.tables.now c.read_scope.new.tables c.args.signature.now c.args.bound.now c.read_scope.ensures.grows c.requires in
     unbound (plain_signature c.args.tables.now c.args.signature.now) (types_of c.args.tables.now c.args.bound.now) c.requires.over c.args.text.now c.in-Some.behind_sign.now c.in-Some.sign _ c.in-Some.ensures.some scope.2 (ap (λ s. bound_by s c.in-Some.sign (type_of c.read_scope.new.tables c.in-Some-2.scope.ty) (term_of c.read_scope.new.tables c.in-Some-2.scope.body)) (sym same) ∙ made_none c.bind_by.new.tables c.in_ok-term.field-0 _ c.in_ok-term.ensures.ok c.in_default-3.is)
 
 pub read_below-returns-in-Some-clause-ok : goal.read_below-returns-in-Some-clause-ok
-read_below-returns-in-Some-clause-ok t c = 
+read_below-returns-in-Some-clause-ok t c =
     let scope = scope_some c.read_scope.new.tables c.in_ok-scope.field-0 c.in-Some-2.scope _ c.in_ok-scope.ensures.ok c.in-Some-2.is in
     let same : plain_signature c.read_scope.new.tables c.args.signature.now ≡ (plain_signature c.args.tables.now c.args.signature.now) = names_same c.args.tables.now c.read_scope.new.tables c.args.signature.now c.args.bound.now c.read_scope.ensures.grows c.requires in
     let kept : types_of c.read_scope.new.tables c.args.bound.now ≡ (types_of c.args.tables.now c.args.bound.now) = bound_same c.args.tables.now c.read_scope.new.tables c.args.signature.now c.args.bound.now c.read_scope.ensures.grows c.requires in
@@ -177,14 +179,14 @@ pub read_below-returns-in-Some-behind-clause-grows : goal.read_below-returns-in-
 read_below-returns-in-Some-behind-clause-grows t c = tables_grow_further c.args.tables.now c.read_operand.new.tables c.negate.new.tables c.read_operand.ensures.grows c.negate.ensures.grows
 
 pub read_below-returns-in_default-5-clause-ok : goal.read_below-returns-in_default-5-clause-ok
-read_below-returns-in_default-5-clause-ok t c = 
+read_below-returns-in_default-5-clause-ok t c =
     let read = (term_some c.read_operand.new.tables c.in_ok-read.field-0 c.in-Some-4.read _ c.in_ok-read.ensures.ok c.in-Some-4.is) in
     let same : plain_signature c.read_operand.new.tables c.args.signature.now ≡ (plain_signature c.args.tables.now c.args.signature.now) = names_same c.args.tables.now c.read_operand.new.tables c.args.signature.now c.args.bound.now c.read_operand.ensures.grows c.requires in
     let kept : types_of c.read_operand.new.tables c.args.bound.now ≡ (types_of c.args.tables.now c.args.bound.now) = bound_same c.args.tables.now c.read_operand.new.tables c.args.signature.now c.args.bound.now c.read_operand.ensures.grows c.requires in
     unnegated_read (plain_signature c.args.tables.now c.args.signature.now) (types_of c.args.tables.now c.args.bound.now) c.requires.over c.args.text.now c.in-Some-behind.behind_sign.now _ c.in_default.ensures.none c.in-Some-behind.ensures.some read.1 (ap (λ s. negated s (term_of c.read_operand.new.tables c.in-Some-4.read.term)) (sym same) ∙ made_none c.negate.new.tables c.in_ok-term-2.field-0 _ c.in_ok-term-2.ensures.ok c.in_default-5.is)
 
 pub read_below-returns-in-Some-behind-clause-ok : goal.read_below-returns-in-Some-behind-clause-ok
-read_below-returns-in-Some-behind-clause-ok t c = 
+read_below-returns-in-Some-behind-clause-ok t c =
     let read = (term_some c.read_operand.new.tables c.in_ok-read.field-0 c.in-Some-4.read _ c.in_ok-read.ensures.ok c.in-Some-4.is) in
     let same : plain_signature c.read_operand.new.tables c.args.signature.now ≡ (plain_signature c.args.tables.now c.args.signature.now) = names_same c.args.tables.now c.read_operand.new.tables c.args.signature.now c.args.bound.now c.read_operand.ensures.grows c.requires in
     let kept : types_of c.read_operand.new.tables c.args.bound.now ≡ (types_of c.args.tables.now c.args.bound.now) = bound_same c.args.tables.now c.read_operand.new.tables c.args.signature.now c.args.bound.now c.read_operand.ensures.grows c.requires in
@@ -195,7 +197,7 @@ pub read_below-returns-in_default-6-clause-ok : goal.read_below-returns-in_defau
 read_below-returns-in_default-6-clause-ok t c = first_wrong (plain_signature c.args.tables.now c.args.signature.now) (types_of c.args.tables.now c.args.bound.now) c.requires.over c.args.text.now c.in_default.ensures.none c.in_default-behind.ensures.none (term_none c.read_operand-2.new.tables c.in_ok-first.field-0 _ c.in_ok-first.ensures.ok c.in_default-6.is)
 
 pub read_below-read_behind-requires : goal.read_below-read_behind-requires
-read_below-read_behind-requires t c = 
+read_below-read_behind-requires t c =
     let first = (term_some c.read_operand-2.new.tables c.in_ok-first.field-0 c.in-Some-6.first _ c.in_ok-first.ensures.ok c.in-Some-6.is) in
     let l = operand_rest (plain_signature c.args.tables.now c.args.signature.now) (types_of c.args.tables.now c.args.bound.now) c.requires.over c.args.text.now _ _ first.1 in
     (omega (arith, c.decreases, l), ((binders_there c.args.tables.now c.read_operand-2.new.tables c.args.signature.now c.args.bound.now c.read_operand-2.ensures.grows c.requires), first.0))
@@ -204,7 +206,7 @@ pub read_below-returns-clause-grows : goal.read_below-returns-clause-grows
 read_below-returns-clause-grows t c = tables_grow_further c.args.tables.now c.read_operand-2.new.tables c.read_behind.new.tables c.read_operand-2.ensures.grows c.read_behind.ensures.grows
 
 pub read_below-returns-clause-ok : goal.read_below-returns-clause-ok
-read_below-returns-clause-ok t c = 
+read_below-returns-clause-ok t c =
     let first = (term_some c.read_operand-2.new.tables c.in_ok-first.field-0 c.in-Some-6.first _ c.in_ok-first.ensures.ok c.in-Some-6.is) in
     let same : plain_signature c.read_operand-2.new.tables c.args.signature.now ≡ (plain_signature c.args.tables.now c.args.signature.now) = names_same c.args.tables.now c.read_operand-2.new.tables c.args.signature.now c.args.bound.now c.read_operand-2.ensures.grows c.requires in
     let kept : types_of c.read_operand-2.new.tables c.args.bound.now ≡ (types_of c.args.tables.now c.args.bound.now) = bound_same c.args.tables.now c.read_operand-2.new.tables c.args.signature.now c.args.bound.now c.read_operand-2.ensures.grows c.requires in
@@ -223,7 +225,7 @@ pub read_arguments-returns-in_default-2-clause-ok : goal.read_arguments-returns-
 read_arguments-returns-in_default-2-clause-ok t c = argument_wrong (plain_signature c.args.tables.now c.args.signature.now) (types_of c.args.tables.now c.args.bound.now) c.requires.binders.over (term_of c.args.tables.now c.args.term) c.args.text.now c.in-Some.space.now c.in-Some.ensures.some (sym c.begins_argument.ensures ∙ c.if-not-begins_argument.false) (term_none c.read_argument.new.tables c.in_ok-argument.field-0 _ c.in_ok-argument.ensures.ok c.in_default-2.is)
 
 pub read_arguments-returns-then-is_sugar-clause-ok : goal.read_arguments-returns-then-is_sugar-clause-ok
-read_arguments-returns-then-is_sugar-clause-ok t c = 
+read_arguments-returns-then-is_sugar-clause-ok t c =
     let argument = (term_some c.read_argument.new.tables c.in_ok-argument.field-0 c.in-Some-2.argument _ c.in_ok-argument.ensures.ok c.in-Some-2.is) in
     argument_sugar (plain_signature c.args.tables.now c.args.signature.now) (types_of c.args.tables.now c.args.bound.now) c.requires.binders.over (term_of c.args.tables.now c.args.term) c.args.text.now c.in-Some.space.now _ c.in-Some.ensures.some (sym c.begins_argument.ensures ∙ c.if-not-begins_argument.false) argument.1 (ap (λ m. is_sugar (sugar m (term_of c.read_argument.new.tables c.in-Some-2.argument.term))) (sym (c.read_argument.ensures.grows.same_term c.args.term c.requires.term)) ∙ sym c.is_sugar.ensures ∙ c.if-is_sugar.true)
 
@@ -234,12 +236,12 @@ pub read_arguments-returns-in_default-3-clause-grows : goal.read_arguments-retur
 read_arguments-returns-in_default-3-clause-grows t c = tables_grow_further c.args.tables.now c.read_argument.new.tables c.apply.new.tables c.read_argument.ensures.grows c.apply.ensures.grows
 
 pub read_arguments-returns-in_default-3-clause-ok : goal.read_arguments-returns-in_default-3-clause-ok
-read_arguments-returns-in_default-3-clause-ok t c = 
+read_arguments-returns-in_default-3-clause-ok t c =
     let argument = (term_some c.read_argument.new.tables c.in_ok-argument.field-0 c.in-Some-2.argument _ c.in_ok-argument.ensures.ok c.in-Some-2.is) in
     argument_unfit (plain_signature c.args.tables.now c.args.signature.now) (types_of c.args.tables.now c.args.bound.now) c.requires.binders.over (term_of c.args.tables.now c.args.term) c.args.text.now c.in-Some.space.now _ c.in-Some.ensures.some (sym c.begins_argument.ensures ∙ c.if-not-begins_argument.false) argument.1 (ap (λ m. applied m (term_of c.read_argument.new.tables c.in-Some-2.argument.term)) (sym (c.read_argument.ensures.grows.same_term c.args.term c.requires.term)) ∙ made_none c.apply.new.tables c.in_ok-applied.field-0 _ c.in_ok-applied.ensures.ok c.in_default-3.is)
 
 pub read_arguments-read_arguments-requires : goal.read_arguments-read_arguments-requires
-read_arguments-read_arguments-requires t c = 
+read_arguments-read_arguments-requires t c =
     let argument = (term_some c.read_argument.new.tables c.in_ok-argument.field-0 c.in-Some-2.argument _ c.in_ok-argument.ensures.ok c.in-Some-2.is) in
     let m = behind_long (codes " ") c.args.text.now c.in-Some.space.now c.in-Some.ensures.some in
     let l = argument_rest (plain_signature c.args.tables.now c.args.signature.now) (types_of c.args.tables.now c.args.bound.now) c.requires.binders.over c.in-Some.space.now _ _ argument.1 in
@@ -249,7 +251,7 @@ pub read_arguments-returns-clause-grows : goal.read_arguments-returns-clause-gro
 read_arguments-returns-clause-grows t c = tables_grow_further c.args.tables.now c.apply.new.tables c.read_arguments.new.tables (tables_grow_further c.args.tables.now c.read_argument.new.tables c.apply.new.tables c.read_argument.ensures.grows c.apply.ensures.grows) c.read_arguments.ensures.grows
 
 pub read_arguments-returns-clause-ok : goal.read_arguments-returns-clause-ok
-read_arguments-returns-clause-ok t c = 
+read_arguments-returns-clause-ok t c =
     let argument = (term_some c.read_argument.new.tables c.in_ok-argument.field-0 c.in-Some-2.argument _ c.in_ok-argument.ensures.ok c.in-Some-2.is) in
     let same : plain_signature c.apply.new.tables c.args.signature.now ≡ (plain_signature c.args.tables.now c.args.signature.now) = names_same c.args.tables.now c.apply.new.tables c.args.signature.now c.args.bound.now (tables_grow_further c.args.tables.now c.read_argument.new.tables c.apply.new.tables c.read_argument.ensures.grows c.apply.ensures.grows) c.requires.binders in
     let kept : types_of c.apply.new.tables c.args.bound.now ≡ (types_of c.args.tables.now c.args.bound.now) = bound_same c.args.tables.now c.apply.new.tables c.args.signature.now c.args.bound.now (tables_grow_further c.args.tables.now c.read_argument.new.tables c.apply.new.tables c.read_argument.ensures.grows c.apply.ensures.grows) c.requires.binders in
@@ -282,14 +284,14 @@ pub read_behind-returns-clause-grows : goal.read_behind-returns-clause-grows
 read_behind-returns-clause-grows t c = tables_grow_further c.args.tables.now c.read_operand.new.tables c.connect.new.tables c.read_operand.ensures.grows c.connect.ensures.grows
 
 pub read_behind-returns-in_default-3-clause-ok : goal.read_behind-returns-in_default-3-clause-ok
-read_behind-returns-in_default-3-clause-ok t c = 
+read_behind-returns-in_default-3-clause-ok t c =
     let second = (term_some c.read_operand.new.tables c.in_ok-second.field-0 c.in-Some-2.second _ c.in_ok-second.ensures.ok c.in-Some-2.is) in
     let same : plain_signature c.read_operand.new.tables c.args.signature.now ≡ (plain_signature c.args.tables.now c.args.signature.now) = names_same c.args.tables.now c.read_operand.new.tables c.args.signature.now c.args.bound.now c.read_operand.ensures.grows c.requires.binders in
     let kept : types_of c.read_operand.new.tables c.args.bound.now ≡ (types_of c.args.tables.now c.args.bound.now) = bound_same c.args.tables.now c.read_operand.new.tables c.args.signature.now c.args.bound.now c.read_operand.ensures.grows c.requires.binders in
     unconnected_read (plain_signature c.args.tables.now c.args.signature.now) (types_of c.args.tables.now c.args.bound.now) (term_of c.args.tables.now c.args.term) c.args.text.now c.in-Some.behind_sign.now c.in-Some.sign _ c.in-Some.ensures.some second.1 ((λ j. connected_by (sym same j) c.in-Some.sign (sym (c.read_operand.ensures.grows.same_term c.args.term c.requires.term) j) (term_of c.read_operand.new.tables c.in-Some-2.second.term)) ∙ made_none c.connect.new.tables c.in_ok-made.field-0 _ c.in_ok-made.ensures.ok c.in_default-3.is)
 
 pub read_behind-returns-clause-ok : goal.read_behind-returns-clause-ok
-read_behind-returns-clause-ok t c = 
+read_behind-returns-clause-ok t c =
     let second = (term_some c.read_operand.new.tables c.in_ok-second.field-0 c.in-Some-2.second _ c.in_ok-second.ensures.ok c.in-Some-2.is) in
     let same : plain_signature c.read_operand.new.tables c.args.signature.now ≡ (plain_signature c.args.tables.now c.args.signature.now) = names_same c.args.tables.now c.read_operand.new.tables c.args.signature.now c.args.bound.now c.read_operand.ensures.grows c.requires.binders in
     let kept : types_of c.read_operand.new.tables c.args.bound.now ≡ (types_of c.args.tables.now c.args.bound.now) = bound_same c.args.tables.now c.read_operand.new.tables c.args.signature.now c.args.bound.now c.read_operand.ensures.grows c.requires.binders in
