@@ -11,7 +11,7 @@ use Rattle.hol_terms.specs.Typing.{fun_name}
 use Rattle.hol_terms.specs.Text.{Text, is_arrow, ty_text, tys_texts, with_commas, with_arguments}
 use Rattle.hol_text.proofs.PrintLemmas.{ty_text-listed, with_arguments-some}
 use Rattle.flat_terms.specs.declared.nodes.TypeId.{TypeId}
-use Rattle.flat_terms.specs.Plain.{PlainTables, HasType, HasTypes, type_of, types_of}
+use Rattle.flat_terms.specs.Plain.{PlainTables, type_of, types_of}
 use Rattle.flat_printing.specs.Commas.{comma_before}
 
 tys_texts-map : (ts : List Ty) → tys_texts (tys ts) ≡ map ty_text ts
