@@ -1,4 +1,5 @@
 pub mod Numbers
+pub mod Sequents
 pub mod Placing
 pub mod PairSteps
 pub mod Sides

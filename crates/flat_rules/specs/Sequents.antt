@@ -44,11 +44,6 @@ pub record HasSequent (t : PlainTables) (q : FlatSequent) : Type 0 where
   pub hyps : HasTerms t q.hyps.items
   pub concl : HasTerm t q.concl
 
--- q stands for the sequent a
-pub record IsSequent (t : PlainTables) (q : FlatSequent) (a : Sequent) : Type 0 where
-  pub has : HasSequent t q
-  pub stands : sequent_of t q ≡ a
-
 -- what is answered stands for what a rule gives, and None is answered where it gives nothing
 abbrev pub IsAnswer : PlainTables → Option Sequent → Option FlatSequent → Type 0
 IsAnswer t given None = given ≡ None

@@ -143,7 +143,7 @@ fn domain_of(tables: &Tables, predicate: TermId) -> TypeId
 }
 
 /// The number of a new type at its parameters. After want of memory the tables are as before.
-fn make_new_type(
+pub fn make_new_type(
     tables: &mut Tables,
     alloc: Global,
     name: NameId,

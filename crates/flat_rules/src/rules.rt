@@ -36,7 +36,7 @@ struct Redex {
     body: TermId,
 }
 
-/// REFL: `|- t = t`.
+/// REFL: `|- t = t`, always. The error is want of memory.
 pub fn refl(
     tables: &mut Tables,
     alloc: Global,
@@ -53,7 +53,8 @@ pub fn refl(
     }))
 }
 
-/// TRANS: `A |- s = t` and `B |- t = u` give `A, B |- s = u`.
+/// TRANS: `A |- s = t` and `B |- t = u` give `A, B |- s = u`. None where a conclusion is no equation, or the terms between differ. The
+/// error is want of memory.
 pub fn trans(
     tables: &mut Tables,
     alloc: Global,
@@ -79,7 +80,8 @@ pub fn trans(
     Ok(Some(FlatSequent { hyps, concl }))
 }
 
-/// MK_COMB: `A |- f = g` and `B |- x = y` give `A, B |- f x = g y`, where f takes x.
+/// MK_COMB: `A |- f = g` and `B |- x = y` give `A, B |- f x = g y`, where f takes x. None where a conclusion is no equation, or f doesn't
+/// take x. The error is want of memory.
 pub fn comb(
     tables: &mut Tables,
     alloc: Global,
@@ -107,7 +109,8 @@ pub fn comb(
     Ok(Some(FlatSequent { hyps, concl }))
 }
 
-/// ABS: `A |- s = t` gives `A |- (\v. s) = (\v. t)`, where v is free in no hypothesis.
+/// ABS: `A |- s = t` gives `A |- (\v. s) = (\v. t)`, where v is free in no hypothesis. None where the conclusion is no equation, or v is
+/// free in a hypothesis. The error is want of memory.
 pub fn abs(
     tables: &mut Tables,
     alloc: Global,
@@ -172,7 +175,8 @@ fn redex_parts(tables: &Tables, term: TermId) -> Option<Redex>
     })
 }
 
-/// BETA: `|- (\x. b) v = b` with v for x, where v isn't free in `\x. b`.
+/// BETA: `|- (\x. b) v = b` with v for x, where v isn't free in `\x. b`. None of another term, or where v is free there. The error is
+/// want of memory.
 pub fn beta(
     tables: &mut Tables,
     alloc: Global,
@@ -197,7 +201,7 @@ pub fn beta(
     }))
 }
 
-/// ASSUME: `p |- p`, where p is boolean.
+/// ASSUME: `p |- p`, where p is boolean. None of a term of another type. The error is want of memory.
 pub fn assume(
     tables: &Tables,
     alloc: Global,
@@ -213,7 +217,8 @@ pub fn assume(
     Ok(Some(FlatSequent { hyps, concl: term }))
 }
 
-/// EQ_MP: `A |- p = q` and `B |- p` give `A, B |- q`.
+/// EQ_MP: `A |- p = q` and `B |- p` give `A, B |- q`. None where the first conclusion is no equation, or its left side isn't the second.
+/// The error is want of memory.
 pub fn eq_mp(
     tables: &Tables,
     alloc: Global,
@@ -234,7 +239,8 @@ pub fn eq_mp(
     Ok(Some(FlatSequent { hyps, concl: right }))
 }
 
-/// DEDUCT_ANTISYM_RULE: `A |- p` and `B |- q` give `(A without q), (B without p) |- p = q`. The conclusions have one type.
+/// DEDUCT_ANTISYM_RULE: `A |- p` and `B |- q` give `(A without q), (B without p) |- p = q`. The conclusions have one
+/// type. The error is want of memory.
 pub fn deduct(
     tables: &mut Tables,
     alloc: Global,
@@ -255,6 +261,7 @@ pub fn deduct(
 }
 
 /// INST_TYPE: the sequent with types for type variables, all at once. None where there is no pair, or two pairs have one type variable.
+/// The error is want of memory.
 pub fn inst_type(
     tables: &mut Tables,
     alloc: Global,
@@ -279,7 +286,7 @@ pub fn inst_type(
 }
 
 /// INST: the sequent with terms for free variables, all at once. None where there is no pair, two pairs have one variable, or a term
-/// has another type than its variable.
+/// has another type than its variable. The error is want of memory.
 pub fn inst(
     tables: &mut Tables,
     alloc: Global,
