@@ -3,7 +3,7 @@ ghost use Rattle.hol_terms.specs.Binding.{tm_ty_subst};
 ghost use Rattle.flat_terms.specs.Plain.{HasTerm, term_of};
 ghost use Rattle.flat_walks.specs.Number.{IsNumber, AreAll};
 ghost use Rattle.flat_instances.specs.Types.{HasTypePairs, type_pairs, IsTypeInstance};
-ghost use Rattle.flat_instances.specs.Retypings.{Extends, IsRetyped, IsRetyping, Retypes};
+ghost use Rattle.flat_instances.specs.Retypings.{Extends, KeepsType, IsRetyped, IsRetyping, Retypes};
 
 use crate::instance::{find_term, note_term};
 use crate::types::{copied, type_instance_at, type_instances_at};
@@ -20,7 +20,7 @@ struct Known {
 }
 
 /// The number of a term with types in place of type variables, all at once; of the pairs of a variable's name and a type the first
-/// counts. After want of memory the tables may have more types and terms.
+/// counts. Its type is that instance of the term's type. After want of memory the tables may have more types and terms.
 pub fn type_instance_in(
     tables: &mut Tables,
     alloc: Global,
@@ -31,6 +31,7 @@ pub fn type_instance_in(
     requires term { HasTerm tables.old term }
     ensures grows { Extends tables.old tables.new }
     ensures ok { IfOk result (λ r. IsNumber tables.new r (tm_ty_subst (type_pairs tables.old pairs.now) (term_of tables.old term))) }
+    ensures typed { IfOk result (λ r. KeepsType (type_pairs tables.old pairs.now) (term_of tables.old term)) }
 {
     let mut known = Known {
         types: IndexMap::new(alloc),

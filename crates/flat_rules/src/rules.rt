@@ -1,7 +1,7 @@
 //! The ten rules (HOL Light). Each answers the sequent that the rule's partial function gives, or None where it gives none. The tables
 //! only gain entries, also after want of memory, which is the only error; binders that can't be counted in a term are answered as want of memory.
 
-ghost use Rattle.std.specs.Prelude.{◌≡◌, IfOk};
+ghost use Rattle.std.specs.Prelude.{◌≡◌, IfOk, IfSome};
 ghost use Rattle.hol_terms.specs.Typing.{tm_type};
 ghost use Rattle.hol_terms.specs.Rules.{lambda, refl_rule, trans_rule, comb_rule, abs_rule, beta_rule, assume_rule, eq_mp_rule, deduct_rule, inst_type_rule, inst_rule};
 ghost use Rattle.flat_terms.specs.Plain.{HasTerm, term_of};
@@ -9,6 +9,7 @@ ghost use Rattle.flat_walks.specs.Walk.{IsVariable, var_of};
 ghost use Rattle.flat_walks.specs.Number.{IsNumber};
 ghost use Rattle.flat_instances.specs.Types.{HasTypePairs, type_pairs};
 ghost use Rattle.flat_instances.specs.Terms.{term_pairs};
+ghost use Rattle.flat_instances.specs.Retypings.{KeepsType};
 ghost use Rattle.flat_instances.specs.TablesGrow.{TablesGrow};
 ghost use Rattle.flat_rules.specs.Sequents.{HasVariablePairs, sequent_of, HasSequent, IsAnswer, IsWellTyped};
 ghost use Rattle.flat_rules.specs.Redexes.{IsRedex};
@@ -261,6 +262,7 @@ pub fn deduct(
 }
 
 /// INST_TYPE: the sequent with types for type variables, all at once. None where there is no pair, or two pairs have one type variable.
+/// The conclusion's type is that instance of its type.
 /// The error is want of memory.
 pub fn inst_type(
     tables: &mut Tables,
@@ -272,6 +274,7 @@ pub fn inst_type(
     requires a { HasSequent tables.old a.now }
     ensures grows { TablesGrow tables.old tables.new }
     ensures ok { IfOk result (λ r. IsAnswer tables.new (inst_type_rule (type_pairs tables.old pairs.now) (sequent_of tables.old a.now)) r) }
+    ensures typed { IfOk result (λ r. IfSome r (λ q. KeepsType (type_pairs tables.old pairs.now) (term_of tables.old a.now.concl))) }
 {
     if pairs.is_empty() {
         return Ok(None);

@@ -1,2 +1,5 @@
 pub mod Examples
 pub mod Numerals
+pub mod Causes
+pub mod BaseStands
+pub mod Standing

@@ -1,26 +1,20 @@
--- A definition that is not unfit is conservative; definitions that the test says are the base definitions are these.
-use Rattle.std.proofs.Common.{◌≡◌, ℕ, true, false, not, ◌&&◌, ◌||◌, List, [], ◌∷◌, ◌++◌, length, arith, refl, sym, ap, ◌∙◌, subst, bytes_eq, take, drop}
+-- A definition that is not unfit is conservative.
+use Rattle.std.proofs.Common.{◌≡◌, true, false, not, ◌&&◌, ◌||◌, List, [], ◌∷◌, length, arith, refl, sym, ap, ◌∙◌, subst}
 use Rattle.std.specs.Prelude.{◌==◌}
-use Rattle.std.specs.Cmp.Lexicographic.{pointwise}
 use Rattle.std.proofs.lemmas.Bool.{and_parts, or_parts, not-false}
 use Rattle.std.proofs.lemmas.Bool.Decides.{nat_tests}
-use Rattle.std.proofs.lemmas.List.{take-append-drop}
-use Rattle.std.proofs.lemmas.Slice.Eq.{bytes_eq-Decides}
 use Rattle.hol_terms.specs.Name.{Name, dot_abs, dot_rep}
 use Rattle.hol_terms.specs.Tm.{Tm, tm_index, tm_free, tm_const, tm_comb, tm_abs}
 use Rattle.hol_terms.specs.Typing.{tm_type, domain_ty, fun_ty}
 use Rattle.hol_terms.specs.TyVars.{tm_within}
 use Rattle.hol_terms.specs.Signature.{may_introduce, IsOver}
 use Rattle.hol_terms.specs.TypeNames.{may_introduce_type}
-use Rattle.hol_terms.specs.Definition.{Definition, const_def, type_def, signature_of, has_frees, bool_ty}
+use Rattle.hol_terms.specs.Definition.{Definition, signature_of, has_frees, bool_ty}
 use Rattle.hol_terms.specs.Sequent.{Sequent, seq, argument, IsFormula}
 use Rattle.hol_terms.specs.Rules.{same, function}
-use Rattle.hol_terms.specs.Base.{base}
-use Rattle.hol_terms.specs.Proves.{Proves, IsPrefix, IsConstDef, IsTypeDef}
+use Rattle.hol_terms.specs.Proves.{Proves, IsConstDef, IsTypeDef}
 use Rattle.hol_terms.proofs.Same.{same-is}
 use Rattle.hol_terms.proofs.Weaken.{Proves-typed}
-use Rattle.hol_kernel.proofs.Guards.{both_parts}
-use Rattle.hol_logs.specs.Step.{same_definition, are_base}
 use Rattle.hol_logs.specs.Position.{predicate_of, is_application, is_unfit_const, is_unfit_type, states}
 
 pub const_fits : (ds : List Definition) (c : Name) (t : Tm) → is_unfit_const ds c t ≡ false → IsOver (signature_of ds) [] t → IsConstDef ds c t
@@ -71,24 +65,3 @@ type_fits ds c a e h =
 -- the theorem that is named
 pub stated : (a : Sequent) (t : Tm) → states a t ≡ true → a ≡ seq [] t
 stated a t e = let p = and_parts (length a.hyps == 0) (same a.concl t) e in bare a p.0 ∙ ap (λ u. seq [] u) (same-is a.concl t p.1)
-
-pub same_definition-is : (d e : Definition) → same_definition d e ≡ true → d ≡ e
-same_definition-is (const_def c t) (const_def d u) h =
-    let p = both_parts (bytes_eq c d) (same t u) h in λ i. const_def ((bytes_eq-Decides c d).0 p.0 i) (same-is t u p.1 i)
-same_definition-is (type_def c t) (type_def d u) h =
-    let p = both_parts (bytes_eq c d) (same t u) h in λ i. type_def ((bytes_eq-Decides c d).0 p.0 i) (same-is t u p.1 i)
-same_definition-is (const_def c t) (type_def d u) h = cc
-same_definition-is (type_def c t) (const_def d u) h = cc
-
-same_definitions-are : (ds es : List Definition) → pointwise same_definition ds es ≡ true → ds ≡ es
-same_definitions-are [] [] h = refl
-same_definitions-are [] (e ∷ es) h = cc
-same_definitions-are (d ∷ ds) [] h = cc
-same_definitions-are (d ∷ ds) (e ∷ es) h =
-    let p = and_parts (same_definition d e) (pointwise same_definition ds es) h in λ i. same_definition-is d e p.0 i ∷ same_definitions-are ds es p.1 i
-
-pub base_is : (n : ℕ) (ds : List Definition) → are_base n ds ≡ true → ds ≡ base n
-base_is n ds h = same_definitions-are ds (base n) h
-
-pub begins_with_base : (ds : List Definition) → are_base 10 (take 10 ds) ≡ true → IsPrefix (base 10) ds
-begins_with_base ds h = (drop 10 ds, sym (take-append-drop 10 ds) ∙ ap (λ es. es ++ drop 10 ds) (base_is 10 (take 10 ds) h))

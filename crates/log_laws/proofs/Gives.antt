@@ -24,9 +24,10 @@ use Rattle.hol_logs.specs.Position.{LogPosition, predicate_of, definitions_by, s
 use Rattle.log_laws.proofs.Lacking.{numeral_lacks}
 use Rattle.log_laws.proofs.Lines.{is_line, line_append, foreign}
 use Rattle.log_laws.proofs.DefinitionLines.{const_line, type_def_line, theorem_is_line}
-use Rattle.log_laws.proofs.Fit.{const_fits, type_fits, stated, base_is}
+use Rattle.hol_logs.proofs.BaseStands.{base_is}
+use Rattle.log_laws.proofs.Fit.{const_fits, type_fits, stated}
 use Rattle.log_laws.proofs.StepsProve.{AllFollow, one_there, step_follows}
-use Rattle.log_laws.proofs.Causes.{HasNoCause}
+use Rattle.hol_logs.proofs.Causes.{HasNoCause}
 
 -- What the report lines say, where the definitions are ds and es are added. Behind the base line they are sound; the base line
 -- itself leads from the base definitions; before it nothing is printed.

@@ -3,7 +3,6 @@ pub mod Lines
 pub mod DefinitionLines
 pub mod Fit
 pub mod StepsProve
-pub mod Causes
 pub mod Written
 pub mod Gives
 pub mod Reports

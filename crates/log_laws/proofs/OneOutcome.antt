@@ -1,41 +1,27 @@
 -- Of a log's lines those that are good lead to one position and print one report, and the first bad one has one first cause.
-use Rattle.std.proofs.Common.{◌≡◌, inl, inr, ◌⊎◌, ℕ, suc, ◌+◌, ◌<◌, ◌≤◌, ◌^◌, Bool, true, false, cond, not, ◌&&◌, ◌||◌, ◌==◌, List, [], ◌∷◌, ◌++◌, Option, Some, None, length, drop, refl, sym, ap, ◌∙◌, subst, append_assoc, append-nil, arith, slice_get}
-use Rattle.std.specs.Prelude.{option_to_list}
-use Rattle.std.specs.List.{list_any}
-use Rattle.std.proofs.lemmas.Bool.{and_parts, not-true, not-false, both_ways}
-use Rattle.std.proofs.lemmas.List.{take-append-drop, take-take, length-append}
+use Rattle.std.proofs.Common.{◌≡◌, inl, inr, ◌⊎◌, ℕ, suc, ◌+◌, ◌<◌, ◌≤◌, ◌^◌, Bool, true, false, cond, ◌==◌, List, [], ◌∷◌, ◌++◌, Option, Some, None, length, refl, sym, ap, ◌∙◌, subst, append_assoc, append-nil, arith}
+use Rattle.std.proofs.lemmas.Bool.{not-true, both_ways}
+use Rattle.std.proofs.lemmas.List.{length-append}
 use Rattle.hol_terms.specs.Definition.{Definition, signature_of}
 use Rattle.hol_terms.specs.Signature.{Signature}
-use Rattle.hol_terms.specs.Base.{base, base_definitions}
-use Rattle.hol_terms.specs.Proves.{IsPrefix, AreConservative}
+use Rattle.hol_terms.specs.Base.{base}
+use Rattle.hol_terms.specs.Proves.{AreConservative}
 use Rattle.hol_terms.specs.ReadsBack.{ReadsBack}
 use Rattle.hol_terms.specs.Text.{Text}
 use Rattle.hol_terms.specs.Sound.{lines_after, complete_lines}
 use Rattle.hol_terms.proofs.BaseTyped.{base_conservative}
 use Rattle.hol_terms.proofs.Weaken.{Extends, extends}
 use Rattle.text_laws.proofs.Named.{reads_back}
-use Rattle.hol_logs.specs.Step.{same_definition, are_base}
-use Rattle.hol_logs.specs.Line.{LogLine, line_first, line_step, line_const, line_type, line_base, line_section, line_name, line_end, line_stop}
-use Rattle.hol_logs.specs.Position.{LogPosition, after, definitions_by, is_base_line, is_next_base, report_of, Why, first_cause}
+use Rattle.hol_logs.specs.Line.{LogLine}
+use Rattle.hol_logs.specs.Position.{LogPosition, after, report_of, Why, first_cause}
 use Rattle.hol_logs.specs.Log.{unended_after, unended, line_unless_empty, log_lines, unlines, HasForm, IsGood, IsBad, no_form, a_cause, Reads, no_line, one_more, is_ended, IsGoodLog, good_log, IsBadLog, bad_line, cut_off}
-use Rattle.log_laws.proofs.Fit.{same_definition-is, base_is}
-use Rattle.log_laws.proofs.Causes.{HasNoCause, no_causes}
+use Rattle.hol_logs.proofs.Standing.{Stands, stands_after, about_ten}
+use Rattle.hol_logs.proofs.Causes.{no_causes}
 use Rattle.log_laws.proofs.Cuts.{AreShort}
 use Rattle.log_laws.proofs.OneReading.{line_by_text}
 use Rattle.log_laws.proofs.Reports.{reads_conservative}
 
 -- ---- lists
-
-prefixes : {A : Type 0} (xs ys more rest : List A) → xs ++ more ≡ ys ++ rest → ((m : List A) × (ys ≡ xs ++ m)) ⊎ ((m : List A) × (xs ≡ ys ++ m))
-prefixes [] ys more rest e = inl (ys, refl)
-prefixes (x ∷ xs) [] more rest e = inr (x ∷ xs, refl)
-prefixes (x ∷ xs) (y ∷ ys) more rest e =
-    let heads : x ≡ y = cc in
-    let tails : xs ++ more ≡ ys ++ rest = cc in
-    elim (prefixes xs ys more rest tails) [
-      | inl p ↦ inl (p.0, λ i. sym heads i ∷ p.1 i)
-      | inr p ↦ inr (p.0, λ i. heads i ∷ p.1 i)
-    ]
 
 no_snoc : {A : Type 0} (xs : List A) (x : A) → [] ≡ xs ++ x ∷ [] → ⊥
 no_snoc [] x e = cc
@@ -78,50 +64,6 @@ places (x ∷ xs) ys (u ∷ us) vs y v e =
 
 -- ---- the definitions at a position
 
--- before the base line they begin the base definitions, behind it they begin with these
-abbrev Stands : ℕ → Bool → List Definition → Type 0
-Stands n true ds = IsPrefix (base n) ds
-Stands n false ds = IsPrefix ds (base n)
-
-next_of : {A : Type 0} (xs more : List A) (y : A) → slice_get (xs ++ more) (length xs) ≡ Some y → (rest : List A) × (more ≡ y ∷ rest)
-next_of [] [] y e = cc
-next_of [] (x ∷ more) y e = let same : x ≡ y = cc in (more, ap (λ z. z ∷ more) same)
-next_of (x ∷ xs) more y e = next_of xs more y e
-
-found_next : (d : Definition) (o : Option Definition) → list_any (same_definition d) (option_to_list o) ≡ true → o ≡ Some d
-found_next d None e = cc
-found_next d (Some b) e = at (same_definition d b) refl e
-  where
-    at : (t : Bool) → same_definition d b ≡ t → (t || false) ≡ true → Some b ≡ Some d
-    at true q f = ap Some (sym (same_definition-is d b q))
-    at false q f = cc
-
-stays : (n : ℕ) (b : Bool) (ds : List Definition) → Stands n b ds → Stands n (b || false) (ds ++ [])
-stays n true ds h = subst (IsPrefix (base n)) (sym (append-nil ds)) h
-stays n false ds h = subst (λ es. IsPrefix es (base n)) (sym (append-nil ds)) h
-
-defines_more : (n : ℕ) (b : Bool) (ds : List Definition) (d : Definition) → cond b false (not (is_next_base n ds d)) ≡ false → Stands n b ds → Stands n (b || false) (ds ++ d ∷ [])
-defines_more n true ds d e h = (h.0 ++ d ∷ [], ap (λ es. es ++ d ∷ []) h.1 ∙ append_assoc (base n) h.0 (d ∷ []))
-defines_more n false ds d e h =
-    let found = found_next d (slice_get (base n) (length ds)) (not-false _ e) in
-    let rest = next_of ds h.0 d (subst (λ bs. slice_get bs (length ds) ≡ Some d) h.1 found) in
-    (rest.0, h.1 ∙ ap (λ m. ds ++ m) rest.1 ∙ sym (append_assoc ds (d ∷ []) rest.0))
-
-based : (n m : ℕ) (b : Bool) (ds : List Definition) → cond b true (not ((m == n) && are_base n ds)) ≡ false → Stands n (b || true) (ds ++ [])
-based n m true ds e = cc
-based n m false ds e = ([], ap (λ es. es ++ []) (base_is n ds (and_parts (m == n) (are_base n ds) (not-false _ e)).1))
-
-stands_after : (n : ℕ) (p : LogPosition) (l : LogLine) → HasNoCause n p l → Stands n p.is_based p.defs → Stands n (p.is_based || is_base_line l) (p.defs ++ definitions_by p l)
-stands_after n p line_first c h = stays n p.is_based p.defs h
-stands_after n p (line_step s) c h = stays n p.is_based p.defs h
-stands_after n p (line_const x t) c h = defines_more n p.is_based p.defs _ c.based h
-stands_after n p (line_type x i) c h = defines_more n p.is_based p.defs _ c.based h
-stands_after n p (line_base m) c h = based n m p.is_based p.defs c.based
-stands_after n p (line_section t) c h = stays n p.is_based p.defs h
-stands_after n p (line_name x i t) c h = stays n p.is_based p.defs h
-stands_after n p (line_end k) c h = stays n p.is_based p.defs h
-stands_after n p (line_stop k test name place) c h = stays n p.is_based p.defs h
-
 stands : (n : ℕ) (texts : List Text) (p : LogPosition) (said : List Text) → Reads n texts p said → Stands n p.is_based p.defs
 stands n texts p said no_line = (base n, refl)
 stands n texts p said (one_more ts ss q t l r good) = stands_after n q l (no_causes n q l good.no_cause) (stands n ts q ss r)
@@ -136,16 +78,11 @@ fewer s t x h = record {
   usual = λ c g u e f. h.usual c g u (x.consts c g e) f;
 }
 
--- the ten definitions of the connectives and quantifiers begin those in force
-ten : (n : ℕ) → 10 ≤ n → base n ≡ base 10 ++ drop 10 (base n)
-ten n h = sym (take-append-drop 10 (base n)) ∙ ap (λ es. es ++ drop 10 (base n)) (take-take 10 n base_definitions h)
-
 position_reads_back : (n : ℕ) (b : Bool) (ds : List Definition) → 10 ≤ n → AreConservative ds → Stands n b ds → ReadsBack (signature_of ds)
-position_reads_back n true ds k c h = reads_back ds c (drop 10 (base n) ++ h.0, h.1 ∙ ap (λ es. es ++ h.0) (ten n k) ∙ append_assoc (base 10) (drop 10 (base n)) h.0)
-position_reads_back n false ds k c h =
-    elim (prefixes ds (base 10) h.0 (drop 10 (base n)) (sym h.1 ∙ ten n k)) [
-      | inl p ↦ fewer (signature_of ds) (signature_of (base 10)) (subst (λ es. Extends (signature_of ds) (signature_of es)) (sym p.1) (extends ds p.0)) (reads_back (base 10) base_conservative ([], sym (append-nil (base 10))))
-      | inr p ↦ reads_back ds c p
+position_reads_back n b ds k c h =
+    elim (about_ten n b ds k h) [
+      | inl p ↦ reads_back ds c p
+      | inr p ↦ fewer (signature_of ds) (signature_of (base 10)) (subst (λ es. Extends (signature_of ds) (signature_of es)) (sym p.1) (extends ds p.0)) (reads_back (base 10) base_conservative ([], sym (append-nil (base 10))))
     ]
 
 reads_reads_back : (n : ℕ) (texts : List Text) (p : LogPosition) (said : List Text) → 10 ≤ n → Reads n texts p said → ReadsBack (signature_of p.defs)

@@ -14,7 +14,7 @@ use Rattle.hol_logs.specs.Line.{LogLine}
 use Rattle.hol_logs.specs.Position.{LogPosition, after, is_base_line, definitions_by, sequents_by, report_of, Why}
 use Rattle.hol_logs.specs.Log.{unlines, log_lines, IsGood, Reads, no_line, one_more, IsGoodLog, good_log, IsBadLog, bad_line, cut_off, IsPartOfReport}
 use Rattle.log_laws.proofs.Lines.{is_line}
-use Rattle.log_laws.proofs.Causes.{no_causes}
+use Rattle.hol_logs.proofs.Causes.{no_causes}
 use Rattle.log_laws.proofs.StepsProve.{AllFollow}
 use Rattle.log_laws.proofs.Written.{sound_from_lines, sound_part}
 use Rattle.log_laws.proofs.Gives.{GoesOn, line_gives}

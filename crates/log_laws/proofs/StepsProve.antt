@@ -10,7 +10,7 @@ use Rattle.hol_terms.specs.Logic.{axioms}
 use Rattle.hol_terms.specs.Proves.{Proves}
 use Rattle.hol_kernel.proofs.Sound.{refl_step, trans_step, comb_step, abs_step, beta_step, assume_step, eq_mp_step, deduct_step, inst_type_step, inst_step, axiom_proves}
 use Rattle.hol_logs.specs.Step.{LogStep, step_refl, step_trans, step_comb, step_abs, step_beta, step_assume, step_mp, step_deduct, step_inst_type, step_inst, step_axiom, IsStepOver, premises, sequent_at, are_base, axiom_of, if_connectives, step_gives}
-use Rattle.log_laws.proofs.Fit.{begins_with_base}
+use Rattle.hol_logs.proofs.BaseStands.{begins_with_base}
 
 -- each of the sequents follows over the definitions
 abbrev pub AllFollow : List Definition → List Sequent → Type 0

@@ -24,7 +24,7 @@ use Rattle.hol_logs.specs.Step.{sequent_at, same_definition, are_base}
 use Rattle.hol_logs.specs.Line.{LogLine, line_first, line_step, line_const, line_type, line_base, line_section, line_name, line_end, line_stop, line_text, is_section, is_word, IsLineOver}
 use Rattle.hol_logs.specs.Position.{LogPosition, start_position, after, predicate_of, is_first, is_misplaced, is_unfit_const, is_unfit_type, is_next_base, states, by_form, by_number, by_rule, by_unfit, by_base, by_text, by_count, first_of}
 use Rattle.hol_logs.specs.Log.{IsGood}
-use Rattle.log_laws.proofs.Causes.{HasNoCause}
+use Rattle.hol_logs.proofs.Causes.{HasNoCause}
 use Rattle.proof_log.specs.Lines.{step_lines}
 use Rattle.proof_log.specs.Written.{names_segments}
 use Rattle.proof_log.proofs.Good.{Leads, leads_one, leads_by}
