@@ -1,5 +1,5 @@
 -- A constant of a signature, test by test.
-use Rattle.std.proofs.Common.{◌≡◌, ℕ, suc, Bool, true, false, ◌==◌, List, [], ◌∷◌, length, Option, Some, None, refl, ap, sym, subst, ◌∙◌}
+use Rattle.std.proofs.Common.{◌≡◌, suc, Bool, true, false, ◌==◌, List, [], ◌∷◌, length, Option, Some, None, refl, ap, subst, ◌∙◌}
 use Rattle.hol_terms.specs.Name.{Name}
 use Rattle.hol_terms.specs.Ty.{Ty, tys}
 use Rattle.hol_terms.specs.Tm.{Tm, tm_const}
@@ -11,11 +11,11 @@ use Rattle.strict_reading.proofs.Steps.{bind_some, when_true}
 use Rattle.flat_terms.specs.declared.nodes.NameId.{NameId}
 use Rattle.flat_terms.specs.declared.nodes.TypeId.{TypeId}
 use Rattle.flat_terms.specs.declared.nodes.TermId.{TermId}
-use Rattle.flat_terms.specs.Plain.{PlainTables, HasName, HasTerm, HasTypes, name_of, type_of, types_of, term_of, IsTermAdded}
-use Rattle.flat_walks.proofs.Steps.{added_has, added_is}
+use Rattle.flat_terms.specs.Plain.{PlainTables, HasName, HasTypes, name_of, type_of, types_of, term_of, IsTermAdded}
+use Rattle.flat_walks.proofs.Steps.{added_is}
 use Rattle.flat_instances.specs.Types.{IsTypeNumber}
 use Rattle.flat_instances.specs.TablesGrow.{TablesGrow}
-use Rattle.flat_signatures.specs.Reads.{IsTypeWhere, AreTypeNumbers}
+use Rattle.flat_signatures.specs.Reads.{IsTypeWhere}
 use Rattle.flat_signatures.proofs.Numbers.{types_there}
 
 pub bind_none : {A B : Type 0} (o : Option A) (f : A → Option B) → o ≡ None → (o >>= f) ≡ None

@@ -1,8 +1,7 @@
 -- Words and signs, a byte at a time.
-use Rattle.std.proofs.Common.{◌≡◌, ◌≢◌, Bor, MatchOption, IfSome, IfNone, refl, sym, ap, ◌∙◌, ℕ, ◌+◌, ◌-◌, ◌<◌, ◌≤◌, Bool, true, false, List, [], ◌∷◌, ◌++◌, length, take, take_all, drop, length-drop, get_or, Option, Some, None, add-one, drop-cons, arith, length-append}
-use Rattle.std.proofs.lemmas.List.{take-append-le}
+use Rattle.std.proofs.Common.{◌≡◌, ◌≢◌, Bor, MatchOption, IfSome, IfNone, refl, sym, ap, ◌∙◌, ℕ, ◌+◌, ◌-◌, ◌<◌, ◌≤◌, true, false, [], ◌∷◌, ◌++◌, length, take, take_all, drop, length-drop, get_or, Option, Some, None, add-one, drop-cons, arith, length-append}
 use Rattle.hol_terms.specs.Text.{Text}
-use Rattle.strict_reading.specs.Words.{in_word, if_word, past_word, word_of, behind_word, behind}
+use Rattle.strict_reading.specs.Words.{in_word, if_word, word_of, behind_word, behind}
 use Rattle.strict_reading.proofs.Words.{word_parts, behind_is, behind_sign}
 
 -- a sign and what is left

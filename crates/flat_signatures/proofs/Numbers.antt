@@ -1,19 +1,19 @@
 -- Numbers that were added, and that larger tables keep.
-use Rattle.std.proofs.Common.{◌≡◌, ◌&&◌, Result, Ok, Err, IfOk, OnOk, OnErr, Bool, true, false, Option, Some, None, List, [], ◌∷◌, ◌++◌, ap, sym, subst, ◌∙◌, refl}
+use Rattle.std.proofs.Common.{◌≡◌, ◌&&◌, Result, Ok, Err, IfOk, OnOk, OnErr, Bool, true, false, List, [], ◌∷◌, ap, ◌∙◌, refl}
 use Rattle.std.proofs.lemmas.Option.{slice_get_within, get_or_from_slice_get}
 use Rattle.std.specs.Str.{chars, IsUtf8, is_utf8}
 use Rattle.std.proofs.lemmas.Str.{IsUtf8-from_is_utf8}
 use Rattle.hol_terms.specs.Name.{Name, is_segment, is_segment_of}
 use Rattle.hol_terms.specs.Ty.{Ty, ty_var, ty_app, tys}
-use Rattle.hol_terms.specs.Typing.{fun_name, fun_ty}
+use Rattle.hol_terms.specs.Typing.{fun_ty}
 use Rattle.flat_terms.specs.declared.nodes.NameId.{NameId}
 use Rattle.flat_terms.specs.declared.nodes.TypeId.{TypeId}
-use Rattle.flat_terms.specs.Plain.{PlainTables, HasName, HasType, HasTypes, name_of, type_of, types_of, IsNameAdded, IsTypeAdded}
+use Rattle.flat_terms.specs.Plain.{PlainTables, HasTypes, name_of, type_of, types_of, IsNameAdded, IsTypeAdded}
 use Rattle.flat_instances.specs.Types.{IsTypeNumber}
 use Rattle.flat_instances.specs.TablesGrow.{TablesGrow}
 use Rattle.flat_instances.proofs.Growth.{type_number_added}
 use Rattle.flat_instances.proofs.TablesGrow.{tables_grow_same, tables_grow_by_type}
-use Rattle.flat_signatures.specs.Reads.{IsNameNumber, IsTypeWhere, AreTypeNumbers}
+use Rattle.flat_signatures.specs.Reads.{IsNameNumber, AreTypeNumbers}
 
 pub name_number_added : (t u : PlainTables) (n : NameId) (x : Name) → IsNameAdded t u n x → IsNameNumber u n x
 name_number_added t u n x a = record { has = slice_get_within u.names n.0 x a.at; text = get_or_from_slice_get u.names n.0 x [] a.at }

@@ -1,15 +1,15 @@
 -- The steps of the walk that tells whether a type is well formed.
-use Rattle.std.proofs.Common.{◌≡◌, ◌⊎◌, inl, inr, ℕ, zero, suc, ◌+◌, ◌<◌, ◌≤◌, Bool, true, false, ◌||◌, ◌&&◌, if◌then◌else◌, List, [], ◌∷◌, ◌++◌, length, map, drop, get_or, nat_eq, refl, ap, sym, subst, ◌∙◌, true≢false, arith, add-one, drop-cons, drop_of_length-le}
+use Rattle.std.proofs.Common.{◌≡◌, inl, inr, ℕ, suc, ◌+◌, ◌<◌, ◌≤◌, Bool, true, false, ◌||◌, ◌&&◌, if◌then◌else◌, List, [], ◌∷◌, ◌++◌, length, drop, get_or, nat_eq, refl, ap, sym, subst, ◌∙◌, true≢false, add-one, drop-cons, drop_of_length-le}
 use Rattle.std.specs.List.{list_any}
 use Rattle.std.proofs.lemmas.Bool.{eqb-true}
 use Rattle.hol_terms.specs.Name.{Name, is_segment}
-use Rattle.hol_terms.specs.Ty.{Ty, ty_var, ty_app, tys}
+use Rattle.hol_terms.specs.Ty.{ty_var, ty_app, tys}
 use Rattle.hol_terms.specs.Signature.{Signature, tys_count}
 use Rattle.strict_reading.specs.Types.{has_arity}
 use Rattle.strict_reading.specs.Terms.{is_type_over, are_types_over}
 use Rattle.flat_terms.specs.declared.nodes.TypeId.{TypeId}
 use Rattle.flat_terms.specs.declared.nodes.NameId.{NameId}
-use Rattle.flat_terms.specs.Plain.{PlainTables, HasTypes, name_of, type_of, types_of}
+use Rattle.flat_terms.specs.Plain.{PlainTables, name_of, type_of, types_of}
 use Rattle.flat_signatures.specs.FlatNames.{FlatNames, plain_signature}
 use Rattle.flat_signatures.specs.Over.{AllOver, IsTypeAdded}
 

@@ -1,11 +1,11 @@
 -- Pairs of type variables and arguments, one at a time.
-use Rattle.std.proofs.Common.{◌≡◌, ℕ, ◌+◌, ◌<◌, ◌≤◌, List, [], ◌∷◌, ◌++◌, length, map, drop, get_or, refl, ap, sym, subst, ◌∙◌, arith, add-one, drop-cons}
+use Rattle.std.proofs.Common.{◌≡◌, ℕ, ◌+◌, ◌<◌, List, [], ◌∷◌, ◌++◌, length, drop, get_or, refl, ap, sym, ◌∙◌, add-one, drop-cons}
 use Rattle.hol_terms.specs.Name.{Name}
 use Rattle.hol_terms.specs.Ty.{Ty}
 use Rattle.hol_terms.specs.TyVars.{pairs_of, var_name}
 use Rattle.flat_terms.specs.declared.nodes.NameId.{NameId}
 use Rattle.flat_terms.specs.declared.nodes.TypeId.{TypeId}
-use Rattle.flat_terms.specs.Plain.{PlainTables, HasName, HasType, HasTypes, name_of, type_of, types_of}
+use Rattle.flat_terms.specs.Plain.{PlainTables, HasName, HasType, name_of, type_of, types_of}
 use Rattle.flat_instances.specs.Types.{HasTypePairs, type_pairs}
 
 pub pairs_pushed : (t : PlainTables) (ps : List (NameId × TypeId)) (n : NameId) (a : TypeId) → HasTypePairs t ps → HasName t n → HasType t a → HasTypePairs t (ps ++ (n, a) ∷ [])

@@ -1,5 +1,5 @@
 -- Signatures over tables: they stay while the tables grow, and answer by numbers.
-use Rattle.std.proofs.Common.{◌≡◌, ◌⊎◌, ℕ, Bool, true, false, cond, List, [], ◌∷◌, ◌++◌, Option, Some, None, nat_eq, bytes_eq, refl, ap, sym, subst, ◌∙◌, eq-eqb, true≢false}
+use Rattle.std.proofs.Common.{◌≡◌, ℕ, Bool, true, false, cond, List, [], ◌∷◌, ◌++◌, Option, Some, None, nat_eq, bytes_eq, refl, ap, sym, subst, ◌∙◌, eq-eqb, true≢false}
 use Rattle.std.specs.Map.{lookup}
 use Rattle.std.specs.Str.{is_utf8, IsUtf8}
 use Rattle.std.proofs.lemmas.Bool.{eqb-true}

@@ -1,11 +1,11 @@
 -- What the readers of types give, beside the readings.
-use Rattle.std.proofs.Common.{◌≡◌, ℕ, ◌+◌, ◌<◌, ◌≤◌, List, [], ◌∷◌, ◌++◌, length, Option, Some, None, Result, Ok, Err, IfOk, refl, ap, sym, subst, ◌∙◌, true, arith}
+use Rattle.std.proofs.Common.{◌≡◌, ◌<◌, ◌≤◌, List, [], ◌∷◌, ◌++◌, length, Option, Some, None, Result, Ok, Err, IfOk, refl, ap, sym, subst, ◌∙◌, true}
 use Rattle.std.specs.Prelude.{codes}
 use Rattle.std.proofs.lemmas.List.{map-append}
-use Rattle.hol_terms.specs.Ty.{Ty, Tys, no_tys, more_tys, tys}
+use Rattle.hol_terms.specs.Ty.{Ty, Tys, more_tys, tys}
 use Rattle.hol_terms.specs.Signature.{Signature}
 use Rattle.hol_terms.specs.Text.{Text}
-use Rattle.strict_reading.specs.Words.{begins_word, word_of, behind_word, behind}
+use Rattle.strict_reading.specs.Words.{begins_word, behind_word, behind}
 use Rattle.strict_reading.specs.Types.{reads_type, reads_types}
 use Rattle.strict_reading.proofs.Words.{word_long, word_longer}
 use Rattle.flat_terms.specs.declared.nodes.TypeId.{TypeId}
@@ -14,7 +14,7 @@ use Rattle.flat_instances.specs.TablesGrow.{TablesGrow}
 use Rattle.flat_signatures.specs.declared.types.TypeRead.{TypeRead}
 use Rattle.flat_signatures.specs.declared.types.TypesRead.{TypesRead}
 use Rattle.flat_signatures.specs.Reads.{IsTypeRead, AreTypesRead}
-use Rattle.flat_signatures.specs.Behind.{in_front, with_front}
+use Rattle.flat_signatures.specs.Behind.{with_front}
 use Rattle.flat_signatures.proofs.Numbers.{types_there}
 use Rattle.flat_signatures.proofs.VariableSteps.{types_pushed}
 use Rattle.flat_signatures.proofs.TypeSteps.{more_read, more_stop, front_further, front_end}

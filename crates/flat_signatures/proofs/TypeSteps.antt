@@ -1,5 +1,5 @@
 -- The steps of reading a type, each as one equation.
-use Rattle.std.proofs.Common.{◌≡◌, ◌+◌, ◌<◌, ◌≤◌, ℕ, suc, Bool, true, false, not, ◌&&◌, ◌==◌, nat_eq, nat_lt, bytes_eq, List, [], ◌∷◌, ◌++◌, length, length-append, Option, Some, None, refl, ap, sym, subst, ◌∙◌, arith}
+use Rattle.std.proofs.Common.{◌≡◌, ◌<◌, ◌≤◌, ℕ, Bool, true, false, not, ◌&&◌, ◌==◌, nat_lt, bytes_eq, List, [], ◌∷◌, ◌++◌, length, length-append, Option, Some, None, refl, ap, sym, ◌∙◌, arith}
 use Rattle.std.specs.Prelude.{codes}
 use Rattle.std.proofs.lemmas.Bool.Decides.{nat_tests}
 use Rattle.hol_terms.specs.Name.{Name, is_segment}
@@ -7,9 +7,9 @@ use Rattle.hol_terms.specs.Ty.{Ty, ty_var, ty_app, Tys, no_tys, more_tys, tys}
 use Rattle.hol_terms.specs.Typing.{fun_name, fun_ty}
 use Rattle.hol_terms.specs.Signature.{Signature, tys_count}
 use Rattle.hol_terms.specs.Text.{Text, is_arrow, is_function, ty_text}
-use Rattle.strict_reading.specs.Steps.{◌>>=◌, when, choose, either}
+use Rattle.strict_reading.specs.Steps.{◌>>=◌, when}
 use Rattle.strict_reading.specs.Words.{begins_word, word_of, behind_word, behind}
-use Rattle.strict_reading.specs.Types.{has_arity, some_types, stop_type, name_behind, range_behind, onward_step, variable_step, name_step, tuple_step, group_step, type_step, more_step, reads_type, reads_types, reads_onward, type_readings}
+use Rattle.strict_reading.specs.Types.{has_arity, some_types, stop_type, name_behind, range_behind, name_step, tuple_step, group_step, reads_type, reads_types, reads_onward, type_readings}
 use Rattle.strict_reading.proofs.Steps.{bind_some, when_true, choose_true, choose_false, either_none, either_some}
 use Rattle.strict_reading.proofs.TypesSound.{more_text, reads_type_sound, reads_types_sound}
 use Rattle.strict_reading.proofs.TypesAgree.{reads_type_steps, reads_onward_steps, reads_types_steps}

@@ -1,11 +1,10 @@
 -- The steps of the walk that collects type variables.
-use Rattle.std.proofs.Common.{◌≡◌, ℕ, zero, suc, ◌+◌, ◌<◌, ◌≤◌, Bool, true, false, ◌||◌, if◌then◌else◌, List, [], ◌∷◌, ◌++◌, length, map, drop, get_or, nat_eq, refl, ap, sym, subst, ◌∙◌, true≢false, eq-eqb, arith, add-one, drop-cons, drop_of_length-le}
+use Rattle.std.proofs.Common.{◌≡◌, ℕ, ◌+◌, ◌<◌, ◌≤◌, Bool, true, false, ◌||◌, if◌then◌else◌, List, [], ◌∷◌, ◌++◌, length, drop, get_or, nat_eq, refl, ap, sym, ◌∙◌, true≢false, eq-eqb, add-one, drop-cons, drop_of_length-le}
 use Rattle.std.specs.List.{list_any}
 use Rattle.std.specs.Ordering.{is_eq}
 use Rattle.std.proofs.lemmas.Bool.{eqb-true}
 use Rattle.std.proofs.lemmas.List.{map-append}
-use Rattle.hol_terms.specs.Name.{Name}
-use Rattle.hol_terms.specs.Ty.{Ty, ty_var, ty_app, tys}
+use Rattle.hol_terms.specs.Ty.{Ty, ty_var, tys}
 use Rattle.hol_terms.specs.Subst.{ty_cmp}
 use Rattle.hol_terms.specs.TyVars.{is_among, with_var, ty_vars, tys_vars}
 use Rattle.hol_terms.specs.Rules.{same_ty}

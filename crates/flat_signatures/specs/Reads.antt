@@ -1,11 +1,9 @@
 -- Numbers that a reading over tables gives, beside what it reads.
-use Rattle.std.specs.Prelude.{◌≡◌, ℕ, Bool, true, false, List, [], ◌∷◌, ◌&&◌, ◌==◌, not, length, Option, Some, None}
+use Rattle.std.specs.Prelude.{◌≡◌, Bool, true, false, List, Option, Some, None}
 use Rattle.hol_terms.specs.Name.{Name}
-use Rattle.hol_terms.specs.Ty.{Ty, ty_var, Tys, no_tys, more_tys, tys}
+use Rattle.hol_terms.specs.Ty.{Ty, Tys, tys}
 use Rattle.hol_terms.specs.Tm.{Tm}
-use Rattle.hol_terms.specs.Signature.{Signature, tys_count}
-use Rattle.hol_terms.specs.Text.{Text, is_arrow}
-use Rattle.strict_reading.specs.Types.{has_arity, some_types}
+use Rattle.hol_terms.specs.Text.{Text}
 use Rattle.flat_terms.specs.declared.nodes.NameId.{NameId}
 use Rattle.flat_terms.specs.declared.nodes.TypeId.{TypeId}
 use Rattle.flat_terms.specs.declared.nodes.TermId.{TermId}

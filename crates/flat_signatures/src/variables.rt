@@ -11,11 +11,7 @@ use flat_terms::tables::Tables;
 use std::alloc::{AllocError, Global};
 
 /// The numbers of a type's variables, each once, by first occurrence.
-pub fn type_variables(
-    tables: &Tables,
-    alloc: Global,
-    ty: TypeId,
-) -> Result<Vec<TypeId>, AllocError>
+pub fn type_variables(tables: &Tables, alloc: Global, ty: TypeId) -> Result<Vec<TypeId>, AllocError>
     requires { HasType tables.now ty }
     ensures { IfOk result (λ v. AreTypeNumbers tables.now v.items (ty_vars (type_of tables.now ty) [])) }
 {

@@ -65,13 +65,13 @@ atom_left s bound x u h =
     omega (arith, q, n, m, l)))
     (λ e g. when_case _ _ _ g (λ b k. let l = named_left s bound (word_of x) (behind_word x) u k in let w = word_longer x b in omega arith))
 
-enclosed_left : (s : Signature) (q : TermReadings) → AreSound s q → (bound : List Ty) (x : Text) (u : Tm × Text) → AreTysOver s (tys bound) → enclosed q bound x ≡ Some u → length u.1 ≤ length x
+pub enclosed_left : (s : Signature) (q : TermReadings) → AreSound s q → (bound : List Ty) (x : Text) (u : Tm × Text) → AreTysOver s (tys bound) → enclosed q bound x ≡ Some u → length u.1 ≤ length x
 enclosed_left s q sound bound x u o h =
     let l = ap length (enclosed_sound s q sound bound x u.0 u.1 o h).text in
     let t = term_text (length bound) u.0 in
     omega (arith, l, length-append (codes "(" ++ t ++ codes ")") u.1, length-append (codes "(" ++ t) (codes ")"))
 
-head_left : (s : Signature) (q : TermReadings) → AreSound s q → (bound : List Ty) (x : Text) (u : Tm × Text) → AreTysOver s (tys bound) → head_step s q bound x ≡ Some u → length u.1 < length x
+pub head_left : (s : Signature) (q : TermReadings) → AreSound s q → (bound : List Ty) (x : Text) (u : Tm × Text) → AreTysOver s (tys bound) → head_step s q bound x ≡ Some u → length u.1 < length x
 head_left s q sound bound x u o h =
     either_case _ _ _ _ h
     (λ y e g. bind_case _ _ _ g (λ p f k. when_case _ _ _ k (λ a l.
@@ -81,11 +81,11 @@ head_left s q sound bound x u o h =
     omega (arith, n, i))))
     (λ e g. atom_left s bound x u g)
 
-operand_left : (s : Signature) (q : TermReadings) → AreSound s q → (bound : List Ty) (x : Text) (u : Tm × Text) → AreTysOver s (tys bound) → operand_step s q bound x ≡ Some u → length u.1 ≤ length x
+pub operand_left : (s : Signature) (q : TermReadings) → AreSound s q → (bound : List Ty) (x : Text) (u : Tm × Text) → AreTysOver s (tys bound) → operand_step s q bound x ≡ Some u → length u.1 ≤ length x
 operand_left s q sound bound x u o h =
     let l = ap length (operand_sound s q sound bound x u.0 u.1 o h).text in omega (arith, l, length-append (operand_text (length bound) u.0) u.1)
 
-argument_left : (s : Signature) (q : TermReadings) → AreSound s q → (bound : List Ty) (x : Text) (u : Tm × Text) → AreTysOver s (tys bound) → argument_step s q bound x ≡ Some u → length u.1 ≤ length x
+pub argument_left : (s : Signature) (q : TermReadings) → AreSound s q → (bound : List Ty) (x : Text) (u : Tm × Text) → AreTysOver s (tys bound) → argument_step s q bound x ≡ Some u → length u.1 ≤ length x
 argument_left s q sound bound x u o h =
     let l = ap length (argument_sound s q sound bound x u.0 u.1 o h).text in omega (arith, l, length-append (argument_text (length bound) u.0) u.1)
 
@@ -168,7 +168,7 @@ readings_agree s n = record {
   onward = λ bound t x o l. (agree s n (length x + 1) (length x + 1) (omega arith) (omega arith)).onward bound t x o (omega arith);
 }
 
-readings_sound : (s : Signature) → AreSound s (term_readings s)
+pub readings_sound : (s : Signature) → AreSound s (term_readings s)
 unfolding reads_term reads_arguments
 readings_sound s = record {
   whole = λ bound x t rest o h. (are_sound s (length x + 1)).whole bound x t rest o h;

@@ -1,4 +1,4 @@
-use Rattle.std.proofs.Common.{◌≡◌, true, sym, ap, ◌∙◌, not}
+use Rattle.std.proofs.Common.{sym, ap, ◌∙◌}
 use Rattle.hol_terms.specs.Name.{is_segment}
 use Rattle.hol_terms.specs.Ty.{ty_var}
 use Rattle.flat_instances.proofs.Growth.{type_number_is}

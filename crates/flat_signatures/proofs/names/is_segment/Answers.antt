@@ -1,4 +1,4 @@
-use Rattle.std.proofs.Common.{◌≡◌, Bool, true, false, not, sym, refl, ◌∙◌}
+use Rattle.std.proofs.Common.{sym, ◌∙◌}
 use Rattle.std.proofs.lemmas.Str.{IsUtf8-past_char}
 use Rattle.flat_signatures.proofs.Segments.{rest_further, rest_wrong, rest_over, segment_is}
 use Rattle.flat_signatures.proofs.names.is_segment.Goals as goal

@@ -1,10 +1,6 @@
-use Rattle.std.proofs.Common.{◌≡◌, ◌≤◌, ◌<◌, ◌&&◌, false, true, get_or, refl, sym, ap, ◌∙◌, arith, List, subst}
-use Rattle.hol_terms.specs.Ty.{tys}
-use Rattle.strict_reading.specs.Terms.{is_type_over, are_types_over}
-use Rattle.flat_terms.specs.Plain.{type_of, types_of}
+use Rattle.std.proofs.Common.{◌≤◌, ◌<◌, false, true, get_or, refl, sym, ◌∙◌, arith}
 use Rattle.flat_instances.proofs.TypeSteps.{most, most_below, most_above, has_at, below_types}
-use Rattle.flat_signatures.specs.FlatNames.{plain_signature}
-use Rattle.flat_signatures.proofs.OverSteps.{listed_over, added_over, app_over, variable_over, over_at, over_end}
+use Rattle.flat_signatures.proofs.OverSteps.{listed_over, added_over, app_over}
 use Rattle.flat_signatures.proofs.Numbers.{IfOk-implies}
 use Rattle.flat_signatures.proofs.over.+over.Goals as goal
 

@@ -33,7 +33,7 @@ pub put_function-requires-3-clause-range : goal.put_function-requires-3-clause-r
 put_function-requires-3-clause-range c = (tables_grow_further c.put_type_variable.new.tables c.put_function.new.tables c.put_function-2.new.tables (tables_grow_further c.put_type_variable.new.tables c.put_type_constant.new.tables c.put_function.new.tables c.put_type_constant.ensures.grows c.put_function.ensures.grows) c.put_function-2.ensures.grows).has_type c.in_ok-alpha.alpha c.in_ok-alpha.ensures.ok.has
 
 pub returns-clause-ok : goal.returns-clause-ok
-returns-clause-ok c = 
+returns-clause-ok c =
     let first : IsTypeNumber c.put_type_variable.new.tables c.in_ok-alpha.alpha alpha = c.in_ok-alpha.ensures.ok in
     let a2 : IsTypeNumber c.put_type_constant.new.tables c.in_ok-alpha.alpha alpha = type_number_there c.put_type_variable.new.tables c.put_type_constant.new.tables c.in_ok-alpha.alpha alpha c.put_type_constant.ensures.grows first in
     let a3 : IsTypeNumber c.put_function.new.tables c.in_ok-alpha.alpha alpha = type_number_there c.put_type_variable.new.tables c.put_function.new.tables c.in_ok-alpha.alpha alpha (tables_grow_further c.put_type_variable.new.tables c.put_type_constant.new.tables c.put_function.new.tables c.put_type_constant.ensures.grows c.put_function.ensures.grows) first in

@@ -1,4 +1,4 @@
-use Rattle.std.proofs.Common.{◌≡◌, ◌<◌, ◌≤◌, ◌++◌, List, [], ◌∷◌, length, Some, ap, sym, subst, ◌∙◌, arith}
+use Rattle.std.proofs.Common.{◌<◌, ◌≤◌, ◌++◌, List, [], ◌∷◌, length, Some, ap, sym, subst, ◌∙◌, arith}
 use Rattle.std.specs.Prelude.{codes}
 use Rattle.hol_terms.specs.Ty.{ty_app, tys}
 use Rattle.hol_terms.specs.Typing.{fun_name, fun_ty}
@@ -23,7 +23,7 @@ pub read_onward-returns-in_default-2-clause-ok : goal.read_onward-returns-in_def
 read_onward-returns-in_default-2-clause-ok t c = argument_wrong (plain_signature c.args.tables.now c.args.signature.now) (type_of c.args.tables.now c.args.ty) c.args.text.now c.in-Some.space.now c.split_word.result.0.now c.in-Some.ensures.some (sym c.begins_word.ensures ∙ c.if-begins_word.true) c.split_word.ensures.word (where_none c.apply_name.new.tables c.in_ok-applied.field-0 _ _ c.in_ok-applied.ensures.ok c.in_default-2.is)
 
 pub read_onward-read_onward-requires : goal.read_onward-read_onward-requires
-read_onward-read_onward-requires t c = 
+read_onward-read_onward-requires t c =
     let m = behind_long (codes " ") c.args.text.now c.in-Some.space.now c.in-Some.ensures.some in
     let l : length c.split_word.result.1.now < length c.in-Some.space.now = rest_shorter c.in-Some.space.now c.split_word.result.1.now (sym c.begins_word.ensures ∙ c.if-begins_word.true) c.split_word.ensures.rest in
     (omega (arith, c.decreases, m, l), (signature_there c.args.tables.now c.apply_name.new.tables c.args.signature.now c.apply_name.ensures.grows c.requires.signature, (where_some c.apply_name.new.tables c.in_ok-applied.field-0 c.in-Some-2.applied _ _ c.in_ok-applied.ensures.ok c.in-Some-2.is).1.has))
@@ -32,7 +32,7 @@ pub read_onward-returns-then-begins_word-clause-grows : goal.read_onward-returns
 read_onward-returns-then-begins_word-clause-grows t c = tables_grow_further c.args.tables.now c.apply_name.new.tables c.read_onward.new.tables c.apply_name.ensures.grows c.read_onward.ensures.grows
 
 pub read_onward-returns-then-begins_word-clause-ok : goal.read_onward-returns-then-begins_word-clause-ok
-read_onward-returns-then-begins_word-clause-ok t c = 
+read_onward-returns-then-begins_word-clause-ok t c =
     let found = where_some c.apply_name.new.tables c.in_ok-applied.field-0 c.in-Some-2.applied _ _ c.in_ok-applied.ensures.ok c.in-Some-2.is in
     let same = signature_same c.args.tables.now c.apply_name.new.tables c.args.signature.now c.apply_name.ensures.grows c.requires.signature in
     type_result_is c.read_onward.new.tables c.read_onward.result _ _ ((λ j. reads_onward (same j) (found.1.tree j) c.split_word.result.1.now) ∙ sym (argument_taken (plain_signature c.args.tables.now c.args.signature.now) (type_of c.args.tables.now c.args.ty) c.args.text.now c.in-Some.space.now c.split_word.result.0.now c.split_word.result.1.now c.in-Some.ensures.some (sym c.begins_word.ensures ∙ c.if-begins_word.true) c.split_word.ensures.word c.split_word.ensures.rest found.0)) c.read_onward.ensures.ok
@@ -41,7 +41,7 @@ pub read_onward-returns-in_default-behind-clause-ok : goal.read_onward-returns-i
 read_onward-returns-in_default-behind-clause-ok t c = type_read_is c.args.tables.now c.stop_type-in_default-behind.result _ _ (sym (no_arrow (plain_signature c.args.tables.now c.args.signature.now) (type_of c.args.tables.now c.args.ty) c.args.text.now c.in-Some.space.now c.in-Some.ensures.some (sym c.begins_word.ensures ∙ c.if-begins_word.false) c.in_default-behind.ensures.none)) c.stop_type-in_default-behind.ensures
 
 pub read_onward-read_type-requires : goal.read_onward-read_type-requires
-read_onward-read_type-requires t c = 
+read_onward-read_type-requires t c =
     let m = behind_long (codes " ") c.args.text.now c.in-Some.space.now c.in-Some.ensures.some in
     let n = behind_long (codes "-> ") c.in-Some.space.now c.in-Some-behind.range.now c.in-Some-behind.ensures.some in
     (omega (arith, c.decreases, m, n), c.requires.signature)
@@ -65,17 +65,18 @@ pub read_onward-returns-in_default-4-clause-ok : goal.read_onward-returns-in_def
 read_onward-returns-in_default-4-clause-ok t c = no_functions (plain_signature c.args.tables.now c.args.signature.now) (type_of c.args.tables.now c.args.ty) c.args.text.now c.in-Some.space.now c.in-Some-behind.range.now c.in-Some.ensures.some (sym c.begins_word.ensures ∙ c.if-begins_word.false) c.in-Some-behind.ensures.some (ap (λ s. has_arity s fun_name 2) (sym (signature_same c.args.tables.now c.read_type.new.tables c.args.signature.now c.read_type.ensures.grows c.requires.signature)) ∙ where_none c.apply_name-2.new.tables c.in_ok-made.field-0 _ _ c.in_ok-made.ensures.ok c.in_default-4.is)
 
 pub read_onward-returns-clause-ok : goal.read_onward-returns-clause-ok
-read_onward-returns-clause-ok t c = 
+read_onward-returns-clause-ok t c =
     let range = type_some c.read_type.new.tables c.in_ok-read.field-0 c.in-Some-3.read _ c.in_ok-read.ensures.ok c.in-Some-3.is in
-    let made = where_some c.apply_name-2.new.tables c.in_ok-made.field-0 c.in-Some-4.made _ _ c.in_ok-made.ensures.ok c.in-Some-4.is in
-    (made.1.has,
-     range_read (plain_signature c.args.tables.now c.args.signature.now) (type_of c.args.tables.now c.args.ty) c.args.text.now c.in-Some.space.now c.in-Some-behind.range.now _ c.in-Some.ensures.some (sym c.begins_word.ensures ∙ c.if-begins_word.false) c.in-Some-behind.ensures.some range.1 (ap (λ s. has_arity s fun_name 2) (sym (signature_same c.args.tables.now c.read_type.new.tables c.args.signature.now c.read_type.ensures.grows c.requires.signature)) ∙ made.0) ∙ ap (λ u. Some (u, c.in-Some-3.read.rest.now)) ((λ j. fun_ty (sym (c.read_type.ensures.grows.same_type c.args.ty c.requires.ty) j) (type_of c.read_type.new.tables c.in-Some-3.read.ty)) ∙ sym made.1.tree))
+    let made = where_some c.apply_name-2.new.tables c.in_ok-made.field-0 c.in-Some-4.made _ _ c.in_ok-made.ensures.ok c.in-Some-4.is in (
+      made.1.has,
+      range_read (plain_signature c.args.tables.now c.args.signature.now) (type_of c.args.tables.now c.args.ty) c.args.text.now c.in-Some.space.now c.in-Some-behind.range.now _ c.in-Some.ensures.some (sym c.begins_word.ensures ∙ c.if-begins_word.false) c.in-Some-behind.ensures.some range.1 (ap (λ s. has_arity s fun_name 2) (sym (signature_same c.args.tables.now c.read_type.new.tables c.args.signature.now c.read_type.ensures.grows c.requires.signature)) ∙ made.0) ∙ ap (λ u. Some (u, c.in-Some-3.read.rest.now)) ((λ j. fun_ty (sym (c.read_type.ensures.grows.same_type c.args.ty c.requires.ty) j) (type_of c.read_type.new.tables c.in-Some-3.read.ty)) ∙ sym made.1.tree),
+    )
 
 pub read_type-returns-in_default-2-clause-ok : goal.read_type-returns-in_default-2-clause-ok
 read_type-returns-in_default-2-clause-ok t c = variable_wrong (plain_signature c.args.tables.now c.args.signature.now) c.args.text.now c.in-Some.quoted.now c.split_word.result.0.now c.in-Some.ensures.some c.split_word.ensures.word (where_none c.put_variable.new.tables c.in_ok-variable.field-0 _ _ c.in_ok-variable.ensures.ok c.in_default-2.is)
 
 pub read_type-read_onward-requires : goal.read_type-read_onward-requires
-read_type-read_onward-requires t c = 
+read_type-read_onward-requires t c =
     let m = behind_long (codes "'") c.args.text.now c.in-Some.quoted.now c.in-Some.ensures.some in
     let l : length c.split_word.result.1.now ≤ length c.in-Some.quoted.now = rest_long c.in-Some.quoted.now c.split_word.result.1.now c.split_word.ensures.rest in
     (omega (arith, c.decreases, m, l), (signature_there c.args.tables.now c.put_variable.new.tables c.args.signature.now c.put_variable.ensures.grows c.requires, (where_some c.put_variable.new.tables c.in_ok-variable.field-0 c.in-Some-2.variable _ _ c.in_ok-variable.ensures.ok c.in-Some-2.is).1.has))
@@ -84,13 +85,13 @@ pub read_type-returns-in-Some-clause-grows : goal.read_type-returns-in-Some-clau
 read_type-returns-in-Some-clause-grows t c = tables_grow_further c.args.tables.now c.put_variable.new.tables c.read_onward.new.tables c.put_variable.ensures.grows c.read_onward.ensures.grows
 
 pub read_type-returns-in-Some-clause-ok : goal.read_type-returns-in-Some-clause-ok
-read_type-returns-in-Some-clause-ok t c = 
+read_type-returns-in-Some-clause-ok t c =
     let found = where_some c.put_variable.new.tables c.in_ok-variable.field-0 c.in-Some-2.variable _ _ c.in_ok-variable.ensures.ok c.in-Some-2.is in
     let same = signature_same c.args.tables.now c.put_variable.new.tables c.args.signature.now c.put_variable.ensures.grows c.requires in
     type_result_is c.read_onward.new.tables c.read_onward.result _ _ ((λ j. reads_onward (same j) (found.1.tree j) c.split_word.result.1.now) ∙ sym (variable_read (plain_signature c.args.tables.now c.args.signature.now) c.args.text.now c.in-Some.quoted.now c.split_word.result.0.now c.split_word.result.1.now c.in-Some.ensures.some c.split_word.ensures.word c.split_word.ensures.rest found.0)) c.read_onward.ensures.ok
 
 pub read_type-read_type-requires : goal.read_type-read_type-requires
-read_type-read_type-requires t c = 
+read_type-read_type-requires t c =
     let m = behind_long (codes "(") c.args.text.now c.in-Some-behind.inner.now c.in-Some-behind.ensures.some in
     (omega (arith, c.decreases, m), c.requires)
 
@@ -98,7 +99,7 @@ pub read_type-returns-in_default-3-clause-ok : goal.read_type-returns-in_default
 read_type-returns-in_default-3-clause-ok t c = group_wrong (plain_signature c.args.tables.now c.args.signature.now) c.args.text.now c.in-Some-behind.inner.now c.in_default.ensures.none c.in-Some-behind.ensures.some (type_none c.read_type.new.tables c.in_ok-first.field-0 _ c.in_ok-first.ensures.ok c.in_default-3.is)
 
 pub read_type-read_group-requires : goal.read_type-read_group-requires
-read_type-read_group-requires t c = 
+read_type-read_group-requires t c =
     let first = type_some c.read_type.new.tables c.in_ok-first.field-0 c.in-Some-3.first _ c.in_ok-first.ensures.ok c.in-Some-3.is in
     let m = behind_long (codes "(") c.args.text.now c.in-Some-behind.inner.now c.in-Some-behind.ensures.some in
     let l = type_left (plain_signature c.args.tables.now c.args.signature.now) c.in-Some-behind.inner.now _ _ first.1 in
@@ -108,7 +109,7 @@ pub read_type-returns-in-Some-behind-clause-grows : goal.read_type-returns-in-So
 read_type-returns-in-Some-behind-clause-grows t c = tables_grow_further c.args.tables.now c.read_type.new.tables c.read_group.new.tables c.read_type.ensures.grows c.read_group.ensures.grows
 
 pub read_type-returns-in-Some-behind-clause-ok : goal.read_type-returns-in-Some-behind-clause-ok
-read_type-returns-in-Some-behind-clause-ok t c = 
+read_type-returns-in-Some-behind-clause-ok t c =
     let first = type_some c.read_type.new.tables c.in_ok-first.field-0 c.in-Some-3.first _ c.in_ok-first.ensures.ok c.in-Some-3.is in
     let same = signature_same c.args.tables.now c.read_type.new.tables c.args.signature.now c.read_type.ensures.grows c.requires in
     type_result_is c.read_group.new.tables c.read_group.result _ _ ((λ j. group_step (same j) (type_readings (same j)) (type_of c.read_type.new.tables c.in-Some-3.first.ty) c.in-Some-3.first.rest.now) ∙ sym (group_read (plain_signature c.args.tables.now c.args.signature.now) c.args.text.now c.in-Some-behind.inner.now _ c.in_default.ensures.none c.in-Some-behind.ensures.some first.1)) c.read_group.ensures.ok
@@ -120,7 +121,7 @@ pub read_type-returns-in_default-4-clause-ok : goal.read_type-returns-in_default
 read_type-returns-in_default-4-clause-ok t c = name_wrong (plain_signature c.args.tables.now c.args.signature.now) c.args.text.now c.split_word-2.result.0.now c.in_default.ensures.none c.in_default-behind.ensures.none (sym c.begins_word.ensures ∙ c.if-not-begins_word.false) c.split_word-2.ensures.word (where_none c.apply_name.new.tables c.in_ok-named.field-0 _ _ c.in_ok-named.ensures.ok c.in_default-4.is)
 
 pub read_type-read_onward-requires-2 : goal.read_type-read_onward-requires-2
-read_type-read_onward-requires-2 t c = 
+read_type-read_onward-requires-2 t c =
     let l : length c.split_word-2.result.1.now < length c.args.text.now = rest_shorter c.args.text.now c.split_word-2.result.1.now (sym c.begins_word.ensures ∙ c.if-not-begins_word.false) c.split_word-2.ensures.rest in
     (omega (arith, c.decreases, l), (signature_there c.args.tables.now c.apply_name.new.tables c.args.signature.now c.apply_name.ensures.grows c.requires, (where_some c.apply_name.new.tables c.in_ok-named.field-0 c.in-Some-4.named _ _ c.in_ok-named.ensures.ok c.in-Some-4.is).1.has))
 
@@ -128,7 +129,7 @@ pub read_type-returns-clause-grows : goal.read_type-returns-clause-grows
 read_type-returns-clause-grows t c = tables_grow_further c.args.tables.now c.apply_name.new.tables c.read_onward-2.new.tables c.apply_name.ensures.grows c.read_onward-2.ensures.grows
 
 pub read_type-returns-clause-ok : goal.read_type-returns-clause-ok
-read_type-returns-clause-ok t c = 
+read_type-returns-clause-ok t c =
     let found = where_some c.apply_name.new.tables c.in_ok-named.field-0 c.in-Some-4.named _ _ c.in_ok-named.ensures.ok c.in-Some-4.is in
     let same = signature_same c.args.tables.now c.apply_name.new.tables c.args.signature.now c.apply_name.ensures.grows c.requires in
     type_result_is c.read_onward-2.new.tables c.read_onward-2.result _ _ ((λ j. reads_onward (same j) (found.1.tree j) c.split_word-2.result.1.now) ∙ sym (name_read (plain_signature c.args.tables.now c.args.signature.now) c.args.text.now c.split_word-2.result.0.now c.split_word-2.result.1.now c.in_default.ensures.none c.in_default-behind.ensures.none (sym c.begins_word.ensures ∙ c.if-not-begins_word.false) c.split_word-2.ensures.word c.split_word-2.ensures.rest found.0)) c.read_onward-2.ensures.ok
@@ -137,7 +138,7 @@ pub read_group-returns-then-not-is_function-clause-ok : goal.read_group-returns-
 read_group-returns-then-not-is_function-clause-ok t c = one_wrong (plain_signature c.args.tables.now c.args.signature.now) (type_of c.args.tables.now c.args.ty) c.args.text.now c.in-Some.rest.now c.in-Some.ensures.some (sym c.is_function.ensures ∙ c.if-not-is_function.true)
 
 pub read_group-read_onward-requires : goal.read_group-read_onward-requires
-read_group-read_onward-requires t c = 
+read_group-read_onward-requires t c =
     let m = behind_long (codes ")") c.args.text.now c.in-Some.rest.now c.in-Some.ensures.some in
     (omega (arith, c.decreases, m), (c.requires.signature, c.requires.ty))
 
@@ -148,7 +149,7 @@ pub read_group-returns-in_default-2-clause-ok : goal.read_group-returns-in_defau
 read_group-returns-in_default-2-clause-ok t c = no_more (plain_signature c.args.tables.now c.args.signature.now) (type_of c.args.tables.now c.args.ty) c.args.text.now c.in_default.ensures.none (no_types c.args.tables.now c.read_more.new.tables c.args.ty c.push.new.self.items c.in_ok-read.field-0 _ (c.in_ok-push.ensures.items ∙ ap (λ l. l ++ c.args.ty ∷ []) c.new-types.ensures.items) c.in_ok-read.ensures.ok c.in_default-2.is)
 
 pub read_group-returns-in_default-behind-clause-ok : goal.read_group-returns-in_default-behind-clause-ok
-read_group-returns-in_default-behind-clause-ok t c = 
+read_group-returns-in_default-behind-clause-ok t c =
     let read = some_types_read c.args.tables.now c.read_more.new.tables c.args.ty c.push.new.self.items c.in_ok-read.field-0 c.in-Some-2.read _ (c.in_ok-push.ensures.items ∙ ap (λ l. l ++ c.args.ty ∷ []) c.new-types.ensures.items) c.in_ok-read.ensures.ok c.in-Some-2.is in
     not_closed (plain_signature c.args.tables.now c.args.signature.now) (type_of c.args.tables.now c.args.ty) c.args.text.now _ c.in_default.ensures.none read.read c.in_default-behind.ensures.none
 
@@ -165,12 +166,12 @@ pub read_group-returns-in_default-3-clause-grows : goal.read_group-returns-in_de
 read_group-returns-in_default-3-clause-grows t c = tables_grow_further c.args.tables.now c.read_more.new.tables c.apply_behind.new.tables c.read_more.ensures.grows c.apply_behind.ensures.grows
 
 pub read_group-returns-in_default-3-clause-ok : goal.read_group-returns-in_default-3-clause-ok
-read_group-returns-in_default-3-clause-ok t c = 
+read_group-returns-in_default-3-clause-ok t c =
     let read = some_types_read c.args.tables.now c.read_more.new.tables c.args.ty c.push.new.self.items c.in_ok-read.field-0 c.in-Some-2.read _ (c.in_ok-push.ensures.items ∙ ap (λ l. l ++ c.args.ty ∷ []) c.new-types.ensures.items) c.in_ok-read.ensures.ok c.in-Some-2.is in
     tuple_wrong (plain_signature c.args.tables.now c.args.signature.now) (type_of c.args.tables.now c.args.ty) c.args.text.now c.in-Some-behind.space.now c.split_word.result.0.now _ _ _ c.in_default.ensures.none read.read c.in-Some-behind.ensures.some c.split_word.ensures.word read.all (count_types c.read_more.new.tables c.in-Some-2.read.types.items ∙ ap length (sym c.as_slice.ensures.value)) (ap (λ s. stands_behind s c.split_word.result.0.now (length c.as_slice.result.now)) (sym (signature_same c.args.tables.now c.read_more.new.tables c.args.signature.now c.read_more.ensures.grows c.requires.signature)) ∙ where_none c.apply_behind.new.tables c.in_ok-made.field-0 _ _ c.in_ok-made.ensures.ok c.in_default-3.is)
 
 pub read_group-read_onward-requires-2 : goal.read_group-read_onward-requires-2
-read_group-read_onward-requires-2 t c = 
+read_group-read_onward-requires-2 t c =
     let read = some_types_read c.args.tables.now c.read_more.new.tables c.args.ty c.push.new.self.items c.in_ok-read.field-0 c.in-Some-2.read _ (c.in_ok-push.ensures.items ∙ ap (λ l. l ++ c.args.ty ∷ []) c.new-types.ensures.items) c.in_ok-read.ensures.ok c.in-Some-2.is in
     let k = types_left (plain_signature c.args.tables.now c.args.signature.now) c.args.text.now _ _ read.read in
     let m = behind_long (codes ") ") _ c.in-Some-behind.space.now c.in-Some-behind.ensures.some in
@@ -181,7 +182,7 @@ pub read_group-returns-clause-grows : goal.read_group-returns-clause-grows
 read_group-returns-clause-grows t c = tables_grow_further c.args.tables.now c.apply_behind.new.tables c.read_onward-2.new.tables (tables_grow_further c.args.tables.now c.read_more.new.tables c.apply_behind.new.tables c.read_more.ensures.grows c.apply_behind.ensures.grows) c.read_onward-2.ensures.grows
 
 pub read_group-returns-clause-ok : goal.read_group-returns-clause-ok
-read_group-returns-clause-ok t c = 
+read_group-returns-clause-ok t c =
     let read = some_types_read c.args.tables.now c.read_more.new.tables c.args.ty c.push.new.self.items c.in_ok-read.field-0 c.in-Some-2.read _ (c.in_ok-push.ensures.items ∙ ap (λ l. l ++ c.args.ty ∷ []) c.new-types.ensures.items) c.in_ok-read.ensures.ok c.in-Some-2.is in
     let found = where_some c.apply_behind.new.tables c.in_ok-made.field-0 c.in-Some-3.made _ _ c.in_ok-made.ensures.ok c.in-Some-3.is in
     let same = signature_same c.args.tables.now c.apply_behind.new.tables c.args.signature.now (tables_grow_further c.args.tables.now c.read_more.new.tables c.apply_behind.new.tables c.read_more.ensures.grows c.apply_behind.ensures.grows) c.requires.signature in
@@ -189,7 +190,7 @@ read_group-returns-clause-ok t c =
     type_result_is c.read_onward-2.new.tables c.read_onward-2.result _ _ ((λ j. reads_onward (same j) ((found.1.tree ∙ ap (λ l. ty_app c.split_word.result.0.now (tys (types_of c.read_more.new.tables l))) c.as_slice.ensures.value) j) c.split_word.result.1.now) ∙ sym whole) c.read_onward-2.ensures.ok
 
 pub read_more-read_type-requires : goal.read_more-read_type-requires
-read_more-read_type-requires t c = 
+read_more-read_type-requires t c =
     let m = behind_long (codes ",") c.loop-next.rest.now c.in-Some.next.now c.in-Some.ensures.some in
     let l = c.loop-next.invariant.left in
     (omega (arith, c.decreases, m, l), signature_there c.args.tables.now c.loop-next.tables c.args.signature.now c.loop-next.invariant.grows c.requires.signature)
@@ -201,14 +202,14 @@ pub read_more-returns-in_err-push-clause-grows : goal.read_more-returns-in_err-p
 read_more-returns-in_err-push-clause-grows t c = tables_grow_further c.args.tables.now c.loop-next.tables c.read_type.new.tables c.loop-next.invariant.grows c.read_type.ensures.grows
 
 pub read_more-loop-next-smaller : goal.read_more-loop-next-smaller
-read_more-loop-next-smaller t c = 
+read_more-loop-next-smaller t c =
     let read = type_some c.read_type.new.tables c.in_ok-read.field-0 c.in-Some-2.read _ c.in_ok-read.ensures.ok c.in-Some-2.is in
     let m = behind_long (codes ",") c.loop-next.rest.now c.in-Some.next.now c.in-Some.ensures.some in
     let l = type_left _ c.in-Some.next.now _ _ read.1 in
     omega (arith, m, l)
 
 pub read_more-loop-next-preserved : goal.read_more-loop-next-preserved
-read_more-loop-next-preserved t c = 
+read_more-loop-next-preserved t c =
     let read = type_some c.read_type.new.tables c.in_ok-read.field-0 c.in-Some-2.read _ c.in_ok-read.ensures.ok c.in-Some-2.is in
     let m = behind_long (codes ",") c.loop-next.rest.now c.in-Some.next.now c.in-Some.ensures.some in
     let l = type_left _ c.in-Some.next.now _ _ read.1 in

@@ -14,7 +14,7 @@ pub has_arity-requires-clause-signature : goal.has_arity-requires-clause-signatu
 has_arity-requires-clause-signature c = signature_there c.args.tables.now c.put_name.new.tables c.args.signature.now c.put_name.ensures.grows c.requires.signature
 
 pub returns-then-not-has_arity-clause-ok : goal.returns-then-not-has_arity-clause-ok
-returns-then-not-has_arity-clause-ok c = 
+returns-then-not-has_arity-clause-ok c =
     let same : plain_signature c.put_name.new.tables c.args.signature.now ≡ plain_signature c.args.tables.now c.args.signature.now = signature_same c.args.tables.now c.put_name.new.tables c.args.signature.now c.put_name.ensures.grows c.requires.signature in
     let text : name_of c.put_name.new.tables c.in_ok-name.name ≡ c.args.word.now = (c.in_ok-name.ensures.ok.text ∙ c.in-Ok.ensures.cases.0) in
     sym (λ j. has_arity (same j) (text j) (length c.args.args.now)) ∙ sym c.has_arity.ensures ∙ c.if-not-has_arity.true
@@ -26,7 +26,7 @@ pub returns-clause-grows : goal.returns-clause-grows
 returns-clause-grows c = tables_grow_further c.args.tables.now c.put_name.new.tables c.type_application.new.self c.put_name.ensures.grows (tables_grow_by_type c.put_name.new.tables c.type_application.new.self c.in_ok-applied.applied _ c.in_ok-applied.ensures.ok)
 
 pub returns-clause-ok : goal.returns-clause-ok
-returns-clause-ok c = 
+returns-clause-ok c =
     let same : plain_signature c.put_name.new.tables c.args.signature.now ≡ plain_signature c.args.tables.now c.args.signature.now = signature_same c.args.tables.now c.put_name.new.tables c.args.signature.now c.put_name.ensures.grows c.requires.signature in
     let text : name_of c.put_name.new.tables c.in_ok-name.name ≡ c.args.word.now = (c.in_ok-name.ensures.ok.text ∙ c.in-Ok.ensures.cases.0) in
     (sym (λ j. has_arity (same j) (text j) (length c.args.args.now)) ∙ sym c.has_arity.ensures ∙ c.if-not-has_arity.false, applied_number c.args.tables.now c.put_name.new.tables c.type_application.new.self c.in_ok-name.name c.args.word.now c.args.args.now c.in_ok-applied.applied c.put_name.ensures.grows (record { has = c.in_ok-name.ensures.ok.has; text = text }) c.requires.args c.in_ok-applied.ensures.ok)

@@ -1,4 +1,4 @@
-use Rattle.std.proofs.Common.{List, nat_eq, sym, ◌∙◌, subst, ap, ◌≡◌}
+use Rattle.std.proofs.Common.{List, nat_eq, sym, ◌∙◌, subst, ap}
 use Rattle.std.specs.List.{list_any}
 use Rattle.flat_terms.specs.declared.nodes.TypeId.{TypeId}
 use Rattle.flat_terms.specs.Plain.{HasTypes, types_of}

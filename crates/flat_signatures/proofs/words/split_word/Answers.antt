@@ -1,4 +1,4 @@
-use Rattle.std.proofs.Common.{◌≤◌, ◌≡◌, ◌∙◌, ap, take, drop, length, subst, sym, ℕ}
+use Rattle.std.proofs.Common.{◌≤◌, ◌∙◌, ap, take, drop, length, subst, sym, ℕ}
 use Rattle.flat_signatures.proofs.Fronts.{word_taken, word_dropped, word_within}
 use Rattle.flat_signatures.proofs.words.split_word.Goals as goal
 

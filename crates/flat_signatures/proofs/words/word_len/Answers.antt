@@ -1,4 +1,4 @@
-use Rattle.std.proofs.Common.{ℕ, Bool, List, ◌≡◌, ◌≤◌, ◌+◌, ◌-◌, length, take, drop, get_or, sym, ap, ◌∙◌, arith, drop_of_length-le}
+use Rattle.std.proofs.Common.{ℕ, Bool, List, ◌≡◌, ◌+◌, ◌-◌, length, take, drop, get_or, sym, ap, ◌∙◌, arith, drop_of_length-le}
 use Rattle.strict_reading.specs.Words.{word_of, in_word}
 use Rattle.flat_signatures.proofs.Fronts.{front_further, front_stops, word_nil, rest_taken}
 use Rattle.flat_signatures.proofs.words.word_len.Goals as goal

@@ -1,6 +1,5 @@
-use Rattle.std.proofs.Common.{◌≡◌, None, ap, sym, ◌∙◌}
-use Rattle.hol_terms.specs.Signature.{Signature, arity_of}
-use Rattle.hol_terms.specs.Name.{Name}
+use Rattle.std.proofs.Common.{◌≡◌, ◌∙◌}
+use Rattle.hol_terms.specs.Signature.{arity_of}
 use Rattle.hol_terms.specs.Table.{with_type}
 use Rattle.flat_terms.specs.Plain.{name_of}
 use Rattle.flat_signatures.specs.FlatNames.{plain_signature}

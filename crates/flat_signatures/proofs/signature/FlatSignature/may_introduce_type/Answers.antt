@@ -20,7 +20,7 @@ pub returns-clause-grows : goal.returns-clause-grows
 returns-clause-grows c = tables_grow_further c.args.tables.now c.put_dotted.new.tables c.put_dotted-2.new.tables c.put_dotted.ensures.grows c.put_dotted-2.ensures.grows
 
 pub returns-then-not-may_introduce-2-clause-ok : goal.returns-then-not-may_introduce-2-clause-ok
-returns-then-not-may_introduce-2-clause-ok c = 
+returns-then-not-may_introduce-2-clause-ok c =
     let s : Signature = plain_signature c.args.tables.now c.args.self.now in
     let n : Name = name_of c.args.tables.now c.args.name in
     let whole : may_introduce s n ≡ true = (sym c.may_introduce.ensures ∙ c.if-not-may_introduce.false) in
@@ -30,7 +30,7 @@ returns-then-not-may_introduce-2-clause-ok c =
     sym (λ j. whole j && ends j && may_introduce s (dot_rep n))
 
 pub returns-clause-ok : goal.returns-clause-ok
-returns-clause-ok c = 
+returns-clause-ok c =
     let s : Signature = plain_signature c.args.tables.now c.args.self.now in
     let n : Name = name_of c.args.tables.now c.args.name in
     let whole : may_introduce s n ≡ true = (sym c.may_introduce.ensures ∙ c.if-not-may_introduce.false) in

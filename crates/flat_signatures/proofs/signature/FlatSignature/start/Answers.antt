@@ -32,7 +32,7 @@ pub introduce_constant-requires-2-clause-generic : goal.introduce_constant-requi
 introduce_constant-requires-2-clause-generic c = (tables_grow_further c.base_types.new.tables c.introduce_type-3.new.tables c.introduce_constant.new.tables (tables_grow_further c.base_types.new.tables c.introduce_type-2.new.tables c.introduce_type-3.new.tables (tables_grow_further c.base_types.new.tables c.introduce_type.new.tables c.introduce_type-2.new.tables c.introduce_type.ensures.grows c.introduce_type-2.ensures.grows) c.introduce_type-3.ensures.grows) c.introduce_constant.ensures.grows).has_type c.in_ok-base.base.choice c.in_ok-base.ensures.ok.choice.has
 
 pub returns-clause-ok : goal.returns-clause-ok
-returns-clause-ok c = 
+returns-clause-ok c =
     let none : Signature = record { types = []; consts = [] } in
     let first : plain_signature c.base_types.new.tables (record { types = c.new.result.entries; constants = c.new-2.result.entries }) ≡ none = (λ j. record { types = plain_types c.base_types.new.tables (c.new.ensures.empty j); consts = plain_constants c.base_types.new.tables (c.new-2.ensures.empty j) }) in
     let one = c.in_ok-introduce_type.ensures.ok ∙ ap (λ s. with_type s (codes "bool") 0) first in
