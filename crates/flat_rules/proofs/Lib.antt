@@ -6,4 +6,3 @@ pub mod Sides
 pub mod Abstracting
 pub mod RuleSteps
 pub mod DefinitionSteps
-pub mod VariableSteps

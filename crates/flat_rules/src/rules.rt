@@ -14,7 +14,7 @@ ghost use Rattle.flat_instances.specs.TablesGrow.{TablesGrow};
 ghost use Rattle.flat_rules.specs.Sequents.{HasVariablePairs, sequent_of, HasSequent, IsAnswer, IsWellTyped};
 ghost use Rattle.flat_rules.specs.Redexes.{IsRedex};
 
-use crate::equations::{equation, function_type, is_bool, make_equation, range_over};
+use crate::equations::{equation, is_bool, make_equation, range_over};
 use crate::hypotheses::{
     copied, instances, is_free_in_none, type_instances, union_of, without_term,
 };
@@ -22,6 +22,7 @@ use crate::pairs::{are_distinct_names, are_distinct_variables, have_types};
 use crate::sequent::FlatSequent;
 use flat_instances::instance::instance;
 use flat_instances::retype::type_instance_in;
+use flat_signatures::entries::put_function;
 use flat_terms::nodes::{NameId, TermId, TermView, TypeId};
 use flat_terms::tables::Tables;
 use flat_walks::bind::bind;
@@ -150,7 +151,7 @@ fn abstracted(
 {
     let bound = tables.type_of(variable);
     let range = tables.type_of(term);
-    let ty = function_type(tables, alloc, bound, range)?;
+    let ty = put_function(tables, alloc, bound, range)?;
     let body = bind(tables, alloc, variable, term)?;
     tables.abstraction(bound, body, ty)
 }
