@@ -1,7 +1,7 @@
 //! Equations over the tables, and the types that they need.
 
 ghost use Rattle.std.specs.Prelude.{◌≡◌, ◌↔◌, IfOk, IsTrue};
-ghost use Rattle.hol_terms.specs.Typing.{tm_type, fun_ty};
+ghost use Rattle.hol_terms.specs.Typing.{tm_type};
 ghost use Rattle.hol_terms.specs.Definition.{bool_ty, eq_ty};
 ghost use Rattle.hol_terms.specs.Sequent.{eq_tm};
 ghost use Rattle.flat_terms.specs.Plain.{HasType, HasTerm, type_of, term_of};
