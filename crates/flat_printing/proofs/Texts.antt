@@ -9,9 +9,8 @@ use Rattle.hol_terms.specs.Name.{Name}
 use Rattle.hol_terms.specs.Ty.{Ty, ty_app, tys}
 use Rattle.hol_terms.specs.Typing.{fun_name}
 use Rattle.hol_terms.specs.Text.{Text, is_arrow, ty_text, tys_texts, with_commas, with_arguments}
-use Rattle.hol_text.proofs.PrintLemmas.{ty_text-listed, with_arguments-some}
 use Rattle.flat_terms.specs.declared.nodes.TypeId.{TypeId}
-use Rattle.flat_terms.specs.Plain.{PlainTables, HasType, HasTypes, type_of, types_of}
+use Rattle.flat_terms.specs.Plain.{PlainTables, type_of, types_of}
 use Rattle.flat_printing.specs.Commas.{comma_before}
 
 tys_texts-map : (ts : List Ty) → tys_texts (tys ts) ≡ map ty_text ts
@@ -55,10 +54,13 @@ arrow_test t c (a ∷ b ∷ d ∷ ns) e = three (length ns)
 
 pub listed : (t : PlainTables) (c : Name) (ns : List TypeId) → 2 ≤ length ns → is_arrow c (tys (types_of t ns)) ≡ false
     → ty_text (ty_app c (tys (types_of t ns))) ≡ codes "(" ++ (with_commas (tys_texts (tys (types_of t ns))) ++ (codes ") " ++ c))
-listed t c ns h e = ty_text-listed c (types_of t ns) (omega (arith, length-map ns (type_of t))) e
+listed t c [] h e = absurd (omega arith)
+listed t c (a ∷ []) h e = absurd (omega arith)
+listed t c (a ∷ b ∷ ns) h e = rw e (simp append_assoc)
 
 pub with_some : (t : PlainTables) (c : Name) (ns : List TypeId) → 1 ≤ length ns → with_arguments c (tys_texts (tys (types_of t ns))) ≡ c ++ (codes "{" ++ (with_commas (tys_texts (tys (types_of t ns))) ++ codes "}"))
-with_some t c ns h = with_arguments-some c (types_of t ns) (omega (arith, length-map ns (type_of t)))
+with_some t c [] h = absurd (omega arith)
+with_some t c (a ∷ ns) h = simp append_assoc
 
 pub ruleset named_lemmas = (append_assoc, listed)
 

@@ -3,9 +3,8 @@
 ghost use Rattle.std.specs.Prelude.{◌≡◌};
 ghost use Rattle.std.specs.Option.{option_copied};
 ghost use Rattle.hol_terms.specs.Text.{sign_between, sign_binding, is_plain, is_atom};
-ghost use Rattle.hol_text.specs.Printing.{infix_sugar, binder_sugar};
 ghost use Rattle.flat_terms.specs.Plain.{HasTerm, term_of};
-ghost use Rattle.flat_printing.specs.Forms.{IsForm};
+ghost use Rattle.flat_printing.specs.Forms.{infix_sugar, binder_sugar, IsForm};
 
 use flat_terms::nodes::{TermId, TermView, TypeId};
 use flat_terms::tables::Tables;

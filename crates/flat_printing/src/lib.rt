@@ -2,6 +2,7 @@
 //! code is called.
 #![tactic(auto)]
 
-pub mod forms;
+mod forms;
+pub mod lines;
 pub mod terms;
 pub mod types;

@@ -31,7 +31,7 @@ fn push_bound(out: &mut String, depth: usize) -> Result<(), AllocError>
 
 /// Writes a term that `depth` binders enclose.
 #[cycle(terms)]
-#[tactic(auto, using(hol_text::proofs::PrintLemmas::term_lemmas))]
+#[tactic(auto, using(crate::proofs::Applications::application_lemmas))]
 fn push_below(
     tables: &Tables,
     out: &mut String,
@@ -61,7 +61,7 @@ fn push_below(
 
 /// Writes the variable of a binder, its type and the body.
 #[cycle(terms)]
-#[tactic(auto, using(hol_text::proofs::PrintLemmas::term_lemmas))]
+#[tactic(auto, using(crate::proofs::Applications::application_lemmas))]
 fn push_scope(
     tables: &Tables,
     out: &mut String,
@@ -85,7 +85,7 @@ fn push_scope(
 
 /// Writes the application of `f` to `x`.
 #[cycle(terms)]
-#[tactic(auto, using(hol_text::proofs::PrintLemmas::term_lemmas))]
+#[tactic(auto, using(crate::proofs::Applications::application_lemmas))]
 fn push_application(
     tables: &Tables,
     out: &mut String,
@@ -121,7 +121,7 @@ fn push_application(
 
 /// Writes a term, in parentheses unless it is plain.
 #[cycle(terms)]
-#[tactic(auto, using(hol_text::proofs::PrintLemmas::term_lemmas))]
+#[tactic(auto, using(crate::proofs::Applications::application_lemmas))]
 fn push_operand(
     tables: &Tables,
     out: &mut String,
@@ -142,7 +142,7 @@ fn push_operand(
 
 /// Writes a term, in parentheses unless it is a variable or a constant.
 #[cycle(terms)]
-#[tactic(auto, using(hol_text::proofs::PrintLemmas::term_lemmas))]
+#[tactic(auto, using(crate::proofs::Applications::application_lemmas))]
 fn push_argument(
     tables: &Tables,
     out: &mut String,

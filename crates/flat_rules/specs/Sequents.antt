@@ -1,14 +1,10 @@
 -- Sequents over the tables: the numbers of their terms, and the plain sequents that they stand for.
 use Rattle.std.specs.Prelude.{◌≡◌, List, [], ◌∷◌, map, Option, Some, None}
-use Rattle.hol_terms.specs.Name.{Name}
-use Rattle.hol_terms.specs.Ty.{Ty}
 use Rattle.hol_terms.specs.Tm.{Tm}
 use Rattle.hol_terms.specs.Signature.{Signature, IsOver}
 use Rattle.hol_terms.specs.Sequent.{Sequent, seq}
-use Rattle.flat_terms.specs.declared.nodes.NameId.{NameId}
-use Rattle.flat_terms.specs.declared.nodes.TypeId.{TypeId}
 use Rattle.flat_terms.specs.declared.nodes.TermId.{TermId}
-use Rattle.flat_terms.specs.Plain.{PlainTables, HasName, HasTypes, HasTerm, name_of, types_of, term_of}
+use Rattle.flat_terms.specs.Plain.{PlainTables, HasTerm, term_of}
 use Rattle.flat_walks.specs.Walk.{IsVariable}
 use Rattle.flat_rules.specs.declared.sequent.FlatSequent.{FlatSequent}
 
@@ -25,16 +21,6 @@ pub record AreNumbers (t : PlainTables) (ns : List TermId) (xs : List Tm) : Type
   pub has : HasTerms t ns
   pub trees : terms_of t ns ≡ xs
 
--- ns are the numbers of the types xs
-pub record AreTypeNumbers (t : PlainTables) (ns : List TypeId) (xs : List Ty) : Type 0 where
-  pub has : HasTypes t ns
-  pub trees : types_of t ns ≡ xs
-
--- n is the number of the name x
-pub record IsNameNumber (t : PlainTables) (n : NameId) (x : Name) : Type 0 where
-  pub has : HasName t n
-  pub text : name_of t n ≡ x
-
 -- the sequent that numbers stand for
 abbrev pub sequent_of : PlainTables → FlatSequent → Sequent
 sequent_of t q = seq (terms_of t q.hyps.items) (term_of t q.concl)
@@ -43,11 +29,6 @@ sequent_of t q = seq (terms_of t q.hyps.items) (term_of t q.concl)
 pub record HasSequent (t : PlainTables) (q : FlatSequent) : Type 0 where
   pub hyps : HasTerms t q.hyps.items
   pub concl : HasTerm t q.concl
-
--- q stands for the sequent a
-pub record IsSequent (t : PlainTables) (q : FlatSequent) (a : Sequent) : Type 0 where
-  pub has : HasSequent t q
-  pub stands : sequent_of t q ≡ a
 
 -- what is answered stands for what a rule gives, and None is answered where it gives nothing
 abbrev pub IsAnswer : PlainTables → Option Sequent → Option FlatSequent → Type 0

@@ -11,13 +11,14 @@ ghost use Rattle.flat_terms.specs.Plain.{HasName, HasType, HasTerm, name_of, typ
 ghost use Rattle.flat_walks.specs.Number.{IsNumber};
 ghost use Rattle.flat_instances.specs.Types.{IsTypeNumber};
 ghost use Rattle.flat_instances.specs.TablesGrow.{TablesGrow};
-ghost use Rattle.flat_rules.specs.Sequents.{IsNameNumber};
 ghost use Rattle.flat_rules.specs.Said.{AreSaid};
 ghost use Rattle.flat_rules.specs.Bridges.{IsBridge, AreJoined, there_and_back, new_variable, old_variable};
 
-use crate::equations::{function_type, make_equation};
+use crate::equations::make_equation;
 use crate::sequent::FlatSequent;
-use crate::variables::{term_type_variables, type_variables};
+use crate::variables::term_type_variables;
+use flat_signatures::entries::{put_dotted, put_function};
+use flat_signatures::variables::type_variables;
 use flat_terms::nodes::{NameId, TermId, TypeId};
 use flat_terms::tables::Tables;
 use std::alloc::{AllocError, Global};
@@ -158,17 +159,6 @@ pub fn make_new_type(
     tables.type_application(alloc, name, &parameters)
 }
 
-/// The number of a name with an end. After want of memory the tables are as before.
-fn dotted(tables: &mut Tables, alloc: Global, name: NameId, end: &str) -> Result<NameId, AllocError>
-    requires { HasName tables.old name }
-    ensures grows { TablesGrow tables.old tables.new }
-    ensures ok { IfOk result (λ n. IsNameNumber tables.new n (name_of tables.old name ++ end.now)) }
-{
-    let mut text = String::from_str(alloc, tables.name_text(name))?;
-    text.push_str(end)?;
-    tables.name(alloc, text.as_str())
-}
-
 /// The number of the constant of a name with an end, a function from one type to another. After want of memory the tables may have
 /// more entries.
 fn dotted_constant(
@@ -185,8 +175,8 @@ fn dotted_constant(
     ensures grows { TablesGrow tables.old tables.new }
     ensures ok { IfOk result (λ r. IsNumber tables.new r (own_const (name_of tables.old name ++ end.now) (fun_ty (type_of tables.old from) (type_of tables.old to)))) }
 {
-    let ty = function_type(tables, alloc, from, to)?;
-    let constant = dotted(tables, alloc, name, end)?;
+    let ty = put_function(tables, alloc, from, to)?;
+    let constant = put_dotted(tables, alloc, name, end)?;
     own_constant(tables, alloc, constant, ty)
 }
 

@@ -1,7 +1,7 @@
 //! Equations over the tables, and the types that they need.
 
 ghost use Rattle.std.specs.Prelude.{◌≡◌, ◌↔◌, IfOk, IsTrue};
-ghost use Rattle.hol_terms.specs.Typing.{tm_type, fun_ty};
+ghost use Rattle.hol_terms.specs.Typing.{tm_type};
 ghost use Rattle.hol_terms.specs.Definition.{bool_ty, eq_ty};
 ghost use Rattle.hol_terms.specs.Sequent.{eq_tm};
 ghost use Rattle.flat_terms.specs.Plain.{HasType, HasTerm, type_of, term_of};
@@ -10,6 +10,7 @@ ghost use Rattle.flat_instances.specs.Types.{IsTypeNumber};
 ghost use Rattle.flat_instances.specs.TablesGrow.{TablesGrow};
 ghost use Rattle.flat_rules.specs.Equations.{eq_const, IsSplit, IsRange};
 
+use flat_signatures::entries::{put_function, put_type_constant};
 use flat_terms::nodes::{TermId, TermView, TypeId, TypeView};
 use flat_terms::tables::Tables;
 use std::alloc::{AllocError, Global};
@@ -104,24 +105,7 @@ pub fn bool_type(tables: &mut Tables, alloc: Global) -> Result<TypeId, AllocErro
     ensures grows { TablesGrow tables.old tables.new }
     ensures ok { IfOk result (λ t. IsTypeNumber tables.new t bool_ty) }
 {
-    let name = tables.name(alloc, "bool")?;
-    tables.type_application(alloc, name, &[])
-}
-
-/// The number of a function type. After want of memory the tables may have more entries.
-pub fn function_type(
-    tables: &mut Tables,
-    alloc: Global,
-    domain: TypeId,
-    range: TypeId,
-) -> Result<TypeId, AllocError>
-    requires domain { HasType tables.old domain }
-    requires range { HasType tables.old range }
-    ensures grows { TablesGrow tables.old tables.new }
-    ensures ok { IfOk result (λ t. IsTypeNumber tables.new t (fun_ty (type_of tables.old domain) (type_of tables.old range))) }
-{
-    let name = tables.name(alloc, "fun")?;
-    tables.type_application(alloc, name, &[domain, range])
+    put_type_constant(tables, alloc, "bool")
 }
 
 /// The number of the type of equality at a type. After want of memory the tables may have more entries.
@@ -131,8 +115,8 @@ fn equality_type(tables: &mut Tables, alloc: Global, at: TypeId) -> Result<TypeI
     ensures ok { IfOk result (λ t. IsTypeNumber tables.new t (eq_ty (type_of tables.old at))) }
 {
     let range = bool_type(tables, alloc)?;
-    let predicates = function_type(tables, alloc, at, range)?;
-    function_type(tables, alloc, at, predicates)
+    let predicates = put_function(tables, alloc, at, range)?;
+    put_function(tables, alloc, at, predicates)
 }
 
 /// The number of the constant `eq` at a type. After want of memory the tables may have more entries.

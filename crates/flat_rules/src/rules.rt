@@ -14,7 +14,7 @@ ghost use Rattle.flat_instances.specs.TablesGrow.{TablesGrow};
 ghost use Rattle.flat_rules.specs.Sequents.{HasVariablePairs, sequent_of, HasSequent, IsAnswer, IsWellTyped};
 ghost use Rattle.flat_rules.specs.Redexes.{IsRedex};
 
-use crate::equations::{equation, function_type, is_bool, make_equation, range_over};
+use crate::equations::{equation, is_bool, make_equation, range_over};
 use crate::hypotheses::{
     copied, instances, is_free_in_none, type_instances, union_of, without_term,
 };
@@ -22,6 +22,7 @@ use crate::pairs::{are_distinct_names, are_distinct_variables, have_types};
 use crate::sequent::FlatSequent;
 use flat_instances::instance::instance;
 use flat_instances::retype::type_instance_in;
+use flat_signatures::entries::put_function;
 use flat_terms::nodes::{NameId, TermId, TermView, TypeId};
 use flat_terms::tables::Tables;
 use flat_walks::bind::bind;
@@ -37,7 +38,7 @@ struct Redex {
     body: TermId,
 }
 
-/// REFL: `|- t = t`.
+/// REFL: `|- t = t`, always. The error is want of memory.
 pub fn refl(
     tables: &mut Tables,
     alloc: Global,
@@ -54,7 +55,8 @@ pub fn refl(
     }))
 }
 
-/// TRANS: `A |- s = t` and `B |- t = u` give `A, B |- s = u`.
+/// TRANS: `A |- s = t` and `B |- t = u` give `A, B |- s = u`. None where a conclusion is no equation, or the terms between differ. The
+/// error is want of memory.
 pub fn trans(
     tables: &mut Tables,
     alloc: Global,
@@ -80,7 +82,8 @@ pub fn trans(
     Ok(Some(FlatSequent { hyps, concl }))
 }
 
-/// MK_COMB: `A |- f = g` and `B |- x = y` give `A, B |- f x = g y`, where f takes x.
+/// MK_COMB: `A |- f = g` and `B |- x = y` give `A, B |- f x = g y`, where f takes x. None where a conclusion is no equation, or f doesn't
+/// take x. The error is want of memory.
 pub fn comb(
     tables: &mut Tables,
     alloc: Global,
@@ -108,7 +111,8 @@ pub fn comb(
     Ok(Some(FlatSequent { hyps, concl }))
 }
 
-/// ABS: `A |- s = t` gives `A |- (\v. s) = (\v. t)`, where v is free in no hypothesis.
+/// ABS: `A |- s = t` gives `A |- (\v. s) = (\v. t)`, where v is free in no hypothesis. None where the conclusion is no equation, or v is
+/// free in a hypothesis. The error is want of memory.
 pub fn abs(
     tables: &mut Tables,
     alloc: Global,
@@ -147,7 +151,7 @@ fn abstracted(
 {
     let bound = tables.type_of(variable);
     let range = tables.type_of(term);
-    let ty = function_type(tables, alloc, bound, range)?;
+    let ty = put_function(tables, alloc, bound, range)?;
     let body = bind(tables, alloc, variable, term)?;
     tables.abstraction(bound, body, ty)
 }
@@ -173,7 +177,8 @@ fn redex_parts(tables: &Tables, term: TermId) -> Option<Redex>
     })
 }
 
-/// BETA: `|- (\x. b) v = b` with v for x, where v isn't free in `\x. b`.
+/// BETA: `|- (\x. b) v = b` with v for x, where v isn't free in `\x. b`. None of another term, or where v is free there. The error is
+/// want of memory.
 pub fn beta(
     tables: &mut Tables,
     alloc: Global,
@@ -198,7 +203,7 @@ pub fn beta(
     }))
 }
 
-/// ASSUME: `p |- p`, where p is boolean.
+/// ASSUME: `p |- p`, where p is boolean. None of a term of another type. The error is want of memory.
 pub fn assume(
     tables: &Tables,
     alloc: Global,
@@ -214,7 +219,8 @@ pub fn assume(
     Ok(Some(FlatSequent { hyps, concl: term }))
 }
 
-/// EQ_MP: `A |- p = q` and `B |- p` give `A, B |- q`.
+/// EQ_MP: `A |- p = q` and `B |- p` give `A, B |- q`. None where the first conclusion is no equation, or its left side isn't the second.
+/// The error is want of memory.
 pub fn eq_mp(
     tables: &Tables,
     alloc: Global,
@@ -235,7 +241,8 @@ pub fn eq_mp(
     Ok(Some(FlatSequent { hyps, concl: right }))
 }
 
-/// DEDUCT_ANTISYM_RULE: `A |- p` and `B |- q` give `(A without q), (B without p) |- p = q`. The conclusions have one type.
+/// DEDUCT_ANTISYM_RULE: `A |- p` and `B |- q` give `(A without q), (B without p) |- p = q`. The conclusions have one
+/// type. The error is want of memory.
 pub fn deduct(
     tables: &mut Tables,
     alloc: Global,
@@ -257,6 +264,7 @@ pub fn deduct(
 
 /// INST_TYPE: the sequent with types for type variables, all at once. None where there is no pair, or two pairs have one type variable.
 /// The conclusion's type is that instance of its type.
+/// The error is want of memory.
 pub fn inst_type(
     tables: &mut Tables,
     alloc: Global,
@@ -282,7 +290,7 @@ pub fn inst_type(
 }
 
 /// INST: the sequent with terms for free variables, all at once. None where there is no pair, two pairs have one variable, or a term
-/// has another type than its variable.
+/// has another type than its variable. The error is want of memory.
 pub fn inst(
     tables: &mut Tables,
     alloc: Global,

@@ -20,9 +20,9 @@ pub fn type_variables(tables: &Tables, alloc: Global, ty: TypeId) -> Result<Vec<
     Ok(seen)
 }
 
-/// Adds a type's variables that weren't seen before.
+/// Adds a type's variables that weren't seen before, by first occurrence. After want of memory only some may be added.
 #[cycle(variables)]
-fn add_variables(tables: &Tables, seen: &mut Vec<TypeId>, ty: TypeId) -> Result<(), AllocError>
+pub fn add_variables(tables: &Tables, seen: &mut Vec<TypeId>, ty: TypeId) -> Result<(), AllocError>
     requires ty { HasType tables.now ty }
     requires seen { HasTypes tables.now seen.old.items }
     ensures seen { HasTypes tables.now seen.new.items }
@@ -34,9 +34,9 @@ fn add_variables(tables: &Tables, seen: &mut Vec<TypeId>, ty: TypeId) -> Result<
     }
 }
 
-/// Adds the variables of several types.
+/// Adds the variables of several types, in their order, as `add_variables` does.
 #[cycle(variables)]
-fn add_variables_of(
+pub fn add_variables_of(
     tables: &Tables,
     seen: &mut Vec<TypeId>,
     types: &[TypeId],

@@ -1,4 +1,4 @@
-use Rattle.std.proofs.Common.{◌≡◌, List, ℕ, Bool, true, bytes_eq, sym, subst, ◌∙◌}
+use Rattle.std.proofs.Common.{◌≡◌, List, ℕ, true, bytes_eq, sym, subst, ◌∙◌}
 use Rattle.hol_terms.specs.Typing.{fun_name}
 use Rattle.flat_terms.specs.Plain.{name_of}
 use Rattle.flat_printing.proofs.Texts.{arrow_test}

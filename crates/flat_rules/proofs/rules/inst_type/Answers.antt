@@ -31,9 +31,9 @@ returns-clause-grows c = tables_grow_further _ _ _ c.type_instances.ensures.grow
 pub returns-clause-ok : goal.returns-clause-ok
 returns-clause-ok c =
     answered c.type_instance_in.new.tables c.type_instance_in.new.tables (record { hyps = c.in_ok-hyps-2.hyps; concl = c.in_ok-concl.concl }) _ (union (map (tm_ty_subst (type_pairs c.args.tables.now c.args.pairs.now)) (terms_of c.args.tables.now c.args.a.now.hyps.items)) []) (tm_ty_subst (type_pairs c.args.tables.now c.args.pairs.now) (term_of c.args.tables.now c.args.a.now.concl)) (tables_grow_itself c.type_instance_in.new.tables)
-        (united_alone c.type_instances.new.tables c.type_instance_in.new.tables c.in_ok-hyps.hyps.items _ c.in_ok-hyps-2.hyps.items _ (numbers_are c.type_instances.new.tables c.in_ok-hyps.hyps.items _ _ c.in_ok-hyps.ensures.ok (ap (λ l. map (tm_ty_subst (type_pairs c.args.tables.now c.args.pairs.now)) (terms_of c.args.tables.now l)) c.deref.ensures.value)) (tables_grow_extended _ _ c.type_instance_in.ensures.grows) c.deref-2.ensures.value c.in_ok-hyps-2.ensures)
-        (number_moved c.type_instance_in.new.tables c.in_ok-concl.concl _ _ c.in_ok-concl.ensures.ok (λ j. tm_ty_subst (type_pairs_same c.args.tables.now c.type_instances.new.tables c.args.pairs.now c.type_instances.ensures.grows c.requires.pairs j) (c.type_instances.ensures.grows.same_term c.args.a.now.concl c.requires.a.concl j)))
-        (inst_type_gives (type_pairs c.args.tables.now c.args.pairs.now) (sequent_of c.args.tables.now c.args.a.now) (some_types c.args.tables.now c.args.pairs.now (sym c.is_empty.ensures ∙ c.if-is_empty.false)) (sym c.are_distinct_names.ensures ∙ c.if-not-are_distinct_names.false))
+    (united_alone c.type_instances.new.tables c.type_instance_in.new.tables c.in_ok-hyps.hyps.items _ c.in_ok-hyps-2.hyps.items _ (numbers_are c.type_instances.new.tables c.in_ok-hyps.hyps.items _ _ c.in_ok-hyps.ensures.ok (ap (λ l. map (tm_ty_subst (type_pairs c.args.tables.now c.args.pairs.now)) (terms_of c.args.tables.now l)) c.deref.ensures.value)) (tables_grow_extended _ _ c.type_instance_in.ensures.grows) c.deref-2.ensures.value c.in_ok-hyps-2.ensures)
+    (number_moved c.type_instance_in.new.tables c.in_ok-concl.concl _ _ c.in_ok-concl.ensures.ok (λ j. tm_ty_subst (type_pairs_same c.args.tables.now c.type_instances.new.tables c.args.pairs.now c.type_instances.ensures.grows c.requires.pairs j) (c.type_instances.ensures.grows.same_term c.args.a.now.concl c.requires.a.concl j)))
+    (inst_type_gives (type_pairs c.args.tables.now c.args.pairs.now) (sequent_of c.args.tables.now c.args.a.now) (some_types c.args.tables.now c.args.pairs.now (sym c.is_empty.ensures ∙ c.if-is_empty.false)) (sym c.are_distinct_names.ensures ∙ c.if-not-are_distinct_names.false))
 
 pub returns-clause-typed : goal.returns-clause-typed
 returns-clause-typed c =
