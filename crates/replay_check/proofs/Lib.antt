@@ -1,0 +1,16 @@
+pub mod BaseTexts
+pub mod Named
+pub mod Meeting
+pub mod Booleans
+pub mod Axioms
+pub mod Verdicts
+pub mod BaseReads
+pub mod Later
+pub mod SameNumbers
+pub mod TypeNames
+pub mod Giving
+pub mod Taking
+pub mod StepLines
+pub mod NamedLines
+pub mod Defining
+pub mod TypeLines
