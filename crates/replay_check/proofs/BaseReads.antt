@@ -43,9 +43,12 @@ pub reads_it : (s : Signature) (x : Text) → ReadsBack s → length x < 2 ^ 64 
 reads_it s x r l t e = some_none (reads_term s [] x) (t.0, []) e (whole_complete s x t.0 r l t.1 t.2)
 
 pub the_term : (t : PlainTables) (s : Signature) (x y : Text) (n : TermId) (rest : Text) → ReadsBack s → length x < 2 ^ 64 → y ≡ x → HasTerm t n → reads_term s [] y ≡ Some (term_of t n, rest) → IsTermOfText t s x n
-the_term t s x y n rest r l same h e = (h, λ u f o.
-    let whole = whole_complete s x u r l f o in
-    ap (λ (p : Tm × Text). p.0) (some_is (term_of t n, rest) (u, []) (sym e ∙ ap (reads_term s []) same ∙ whole)))
+the_term t s x y n rest r l same h e = (
+  h,
+  λ u f o.
+      let whole = whole_complete s x u r l f o in
+      ap (λ (p : Tm × Text). p.0) (some_is (term_of t n, rest) (u, []) (sym e ∙ ap (reads_term s []) same ∙ whole)),
+)
 
 -- ---- places among the base definitions
 

@@ -54,7 +54,7 @@ pub defined : (p q : Position) (d : FlatDefinition) → IsPosition p → HasDefi
 defined p q d h has may off g sig plain defs seqs lines based over =
     let ds : List Definition = definitions_of p.tables p.definitions.items in
     let more : definitions_of q.tables q.definitions.items ≡ ds ++ definition_of p.tables d ∷ [] =
-        ap (definitions_of q.tables) defs ∙ pushed_definitions q.tables p.definitions.items d ∙ (λ i. definitions_same p.tables q.tables p.definitions.items g h.definitions i ++ definition_same p.tables q.tables d g has i ∷ []) in
+    ap (definitions_of q.tables) defs ∙ pushed_definitions q.tables p.definitions.items d ∙ (λ i. definitions_same p.tables q.tables p.definitions.items g h.definitions i ++ definition_same p.tables q.tables d g has i ∷ []) in
     record {
       position = record {
         signature = sig;
@@ -80,8 +80,12 @@ gains_itself p = record { grows = tables_grow_itself p.tables; signature = refl;
 pub gains_further : (p q r : Position) → Gains p q → Gains q r → Gains p r
 gains_further p q r g h = record {
   grows = tables_grow_further p.tables q.tables r.tables g.grows h.grows;
-  signature = h.signature ∙ g.signature; definitions = h.definitions ∙ g.definitions; sequents = h.sequents ∙ g.sequents;
-  lines = h.lines ∙ g.lines; is_based = h.is_based ∙ g.is_based; is_over = h.is_over ∙ g.is_over;
+  signature = h.signature ∙ g.signature;
+  definitions = h.definitions ∙ g.definitions;
+  sequents = h.sequents ∙ g.sequents;
+  lines = h.lines ∙ g.lines;
+  is_based = h.is_based ∙ g.is_based;
+  is_over = h.is_over ∙ g.is_over;
 }
 
 pub may_still : (p q : Position) (d : FlatDefinition) → Gains p q → IsPosition p → HasDefinition p.tables d → MayDefine (plain_signature p.tables p.signature) (definition_of p.tables d) → MayDefine (plain_signature q.tables q.signature) (definition_of q.tables d)
@@ -103,7 +107,12 @@ pub gains_tables : (p q : Position) (t : PlainTables) → Gains p q → TablesGr
     → Gains p (record { tables = t; signature = q.signature; definitions = q.definitions; sequents = q.sequents; lines = q.lines; is_based = q.is_based; is_over = q.is_over })
 gains_tables p q t g h = record {
   grows = tables_grow_further p.tables q.tables t g.grows h;
-  signature = g.signature; definitions = g.definitions; sequents = g.sequents; lines = g.lines; is_based = g.is_based; is_over = g.is_over;
+  signature = g.signature;
+  definitions = g.definitions;
+  sequents = g.sequents;
+  lines = g.lines;
+  is_based = g.is_based;
+  is_over = g.is_over;
 }
 
 pub report_still : (p q : Position) (d : FlatDefinition) → Gains p q → IsPosition p → HasDefinition p.tables d → definition_report (log_position q) (definition_of q.tables d) ≡ definition_report (log_position p) (definition_of p.tables d)

@@ -131,10 +131,12 @@ step_taken p q l a h i g sig defs seqs lines based over k answer boolean =
     let good = step_good in_force (log_position p) l (sequent_of q.tables a) (placed_inside p i) k answer.1 in
     let ds : definitions_of q.tables q.definitions.items ≡ definitions_of p.tables p.definitions.items = ap (λ x. definitions_of q.tables x.items) defs ∙ definitions_same p.tables q.tables p.definitions.items g h.definitions in
     let gives : sequents_of q.tables q.sequents.items ≡ (log_position p).steps ++ option_to_list (step_gives (log_position p).defs (log_position p).steps l) =
-        more_sequents p q a h g seqs ∙ ap (λ o. (log_position p).steps ++ option_to_list o) (sym answer.1) in
-    (good, taken_position p q a h g sig defs seqs based answer.0 boolean,
+    more_sequents p q a h g seqs ∙ ap (λ o. (log_position p).steps ++ option_to_list o) (sym answer.1) in (
+      good,
+      taken_position p q a h g sig defs seqs based answer.0 boolean,
       position_is (log_position p) (line_step l) (ds ∙ adds_nothing (log_position p).defs) gives lines (based ∙ or_false p.is_based) (over ∙ or_false p.is_over),
-      nothing p.is_based)
+      nothing p.is_based,
+    )
 
 pub answer_at : (t u : PlainTables) (ds es : List FlatDefinition) (qs rs : List FlatSequent) (l : LogStep) (g h : Option FlatSequent) → ds ≡ es → qs ≡ rs → g ≡ h → IsAnswer u (step_gives (definitions_of t ds) (sequents_of t qs) l) g
     → IsAnswer u (step_gives (definitions_of t es) (sequents_of t rs) l) h

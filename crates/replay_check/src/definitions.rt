@@ -235,11 +235,7 @@ fn make_types(
 }
 
 /// The names of the two functions of a type.
-fn make_names(
-    tables: &mut Tables,
-    alloc: Global,
-    name: NameId,
-) -> Result<BridgeNames, AllocError>
+fn make_names(tables: &mut Tables, alloc: Global, name: NameId) -> Result<BridgeNames, AllocError>
     requires { HasName tables.old name }
     ensures grows { TablesGrow tables.old tables.new }
     ensures ok { IfOk result (λ b. AreBridgeNames tables.new (name_of tables.old name) b) }

@@ -178,8 +178,13 @@ impl Position {
             return Ok(Verdict::Bad(Why::Number));
         }
         let theorem = sequent(&self.sequents, step);
-        let Some(predicate) =
-            fit_predicate(&mut self.tables, alloc, &self.signature, name, theorem)?
+        let Some(predicate) = fit_predicate(
+            &mut self.tables,
+            alloc,
+            &self.signature,
+            name,
+            theorem,
+        )?
         else {
             return Ok(Verdict::Bad(Why::Unfit));
         };
@@ -210,11 +215,7 @@ impl Position {
     }
 
     /// Whether a definition stands before the base line and isn't the next base definition.
-    fn is_off_base(
-        &mut self,
-        alloc: Global,
-        definition: FlatDefinition,
-    ) -> Result<bool, AllocError>
+    fn is_off_base(&mut self, alloc: Global, definition: FlatDefinition) -> Result<bool, AllocError>
         requires position { IsPosition self.old }
         requires definition { HasDefinition self.old.tables definition }
         ensures grows { Gains self.old self.new }

@@ -21,9 +21,7 @@ use crate::definitions::FlatDefinition;
 use flat_lines::numbers::Number;
 use flat_lines::steps::FlatStep;
 use flat_rules::equations::equation;
-use flat_rules::rules::{
-    abs, assume, beta, comb, deduct, eq_mp, inst, inst_type, refl, trans,
-};
+use flat_rules::rules::{abs, assume, beta, comb, deduct, eq_mp, inst, inst_type, refl, trans};
 use flat_rules::sequent::FlatSequent;
 use flat_signatures::signature::FlatSignature;
 use flat_terms::tables::Tables;

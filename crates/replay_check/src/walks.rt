@@ -115,11 +115,7 @@ fn is_within_at(
 }
 
 /// Notes a term, and gives the answer.
-fn note(
-    known: &mut IndexSet<TermId>,
-    term: TermId,
-    answer: bool,
-) -> Result<bool, AllocError>
+fn note(known: &mut IndexSet<TermId>, term: TermId, answer: bool) -> Result<bool, AllocError>
     ensures answer { IfOk result (λ b. b ≡ answer) }
     ensures added { IsAdded known.old.keys known.new.keys term }
 {

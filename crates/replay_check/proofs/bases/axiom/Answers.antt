@@ -19,8 +19,10 @@ pub returns-clause-ok : goal.returns-clause-ok
 returns-clause-ok c =
     let ten = enough c.args.tables.now c.args.definitions.now c.if-definitions-lt10.false c.requires.stands in
     let bare = axiom_is (definitions_of c.args.tables.now c.args.definitions.now) _ c.put_term.new.tables c.in-Some.ensures.0 c.in-Some.ensures.1 _ c.in_ok-concl.concl ten c.requires.plain c.in-Some.ensures.2 c.in-Some.ensures.3 c.in_ok-concl.ensures.ok in
-    λ n i. (record { hyps = subst (λ l. HasTerms c.put_term.new.tables l) (sym c.new.ensures.items) tt; concl = c.in_ok-concl.ensures.ok.0 },
-      axiom_there (definitions_of c.args.tables.now c.args.definitions.now) _ ten ∙ c.in-Some.ensures.4 n i ∙ ap Some (bare ∙ ap (λ l. seq (terms_of c.put_term.new.tables l) (term_of c.put_term.new.tables c.in_ok-concl.concl)) (sym c.new.ensures.items)))
+    λ n i. (
+      record { hyps = subst (λ l. HasTerms c.put_term.new.tables l) (sym c.new.ensures.items) tt; concl = c.in_ok-concl.ensures.ok.0 },
+      axiom_there (definitions_of c.args.tables.now c.args.definitions.now) _ ten ∙ c.in-Some.ensures.4 n i ∙ ap Some (bare ∙ ap (λ l. seq (terms_of c.put_term.new.tables l) (term_of c.put_term.new.tables c.in_ok-concl.concl)) (sym c.new.ensures.items)),
+    )
 
 pub returns-clause-boolean : goal.returns-clause-boolean
 returns-clause-boolean c =
