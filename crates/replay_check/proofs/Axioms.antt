@@ -1,5 +1,5 @@
 -- The three axioms: they have no hypotheses, and are boolean terms that are well typed over the definitions of the connectives and quantifiers.
-use Rattle.std.proofs.Common.{◌≡◌, ℕ, zero, suc, true, List, [], Some, refl, sym, ap, subst, slice_get}
+use Rattle.std.proofs.Common.{◌≡◌, ℕ, zero, suc, true, List, [], Some, refl, sym, subst, slice_get}
 use Rattle.hol_terms.specs.Tm.{Tm}
 use Rattle.hol_terms.specs.Typing.{tm_type}
 use Rattle.hol_terms.specs.Signature.{IsOver}

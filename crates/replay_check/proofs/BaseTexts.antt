@@ -1,5 +1,5 @@
 -- The entries of a table that says what the base definitions or the axioms do.
-use Rattle.std.proofs.Common.{◌≡◌, ◌≤◌, ℕ, zero, suc, Bool, true, false, ◌&&◌, List, [], ◌∷◌, length, Some, None, refl, subst, arith, slice_get, bytes_eq, Bor}
+use Rattle.std.proofs.Common.{◌≡◌, ◌≤◌, ℕ, zero, suc, true, ◌&&◌, List, [], ◌∷◌, length, Some, refl, subst, arith, slice_get, bytes_eq, Bor}
 use Rattle.std.proofs.lemmas.Bool.{and_parts}
 use Rattle.std.proofs.lemmas.Slice.Eq.{bytes_eq-Decides}
 use Rattle.hol_terms.specs.Definition.{Definition, const_def, type_def}

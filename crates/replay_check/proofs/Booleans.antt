@@ -1,6 +1,5 @@
 -- What a rule gives concludes a boolean term, where what it is given does.
-use Rattle.std.proofs.Common.{◌≡◌, Bool, true, false, ◌||◌, List, [], ◌∷◌, Option, Some, None, refl, sym, ap, ◌∙◌}
-use Rattle.hol_terms.specs.Ty.{Ty}
+use Rattle.std.proofs.Common.{◌≡◌, Bool, true, false, [], ◌∷◌, Some, refl, sym, ap, ◌∙◌}
 use Rattle.hol_terms.specs.Tm.{Tm, FreeVar, tm_comb}
 use Rattle.hol_terms.specs.Typing.{tm_type}
 use Rattle.hol_terms.specs.Subst.{TySubst, ty_subst}

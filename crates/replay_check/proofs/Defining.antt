@@ -1,5 +1,5 @@
 -- One more definition at a position.
-use Rattle.std.proofs.Common.{◌≡◌, ℕ, suc, Bool, true, false, cond, not, ◌||◌, List, [], ◌∷◌, ◌++◌, map, Option, String, refl, sym, ap, ◌∙◌, subst, append_assoc, append-nil}
+use Rattle.std.proofs.Common.{◌≡◌, suc, Bool, true, false, cond, not, ◌||◌, List, [], ◌∷◌, ◌++◌, Option, String, refl, sym, ap, ◌∙◌, subst}
 use Rattle.std.specs.declared.alloc.Global.{Global}
 use Rattle.hol_terms.specs.Typing.{tm_type}
 use Rattle.hol_terms.specs.Sequent.{Sequent}
@@ -25,7 +25,7 @@ use Rattle.replay_check.specs.Named.{AreNamed}
 use Rattle.replay_check.specs.Definitions.{definition_of, HasDefinition, definitions_of, HasDefinitions, AreSequents, sequents_of, IsTypedDefinition, MayDefine}
 use Rattle.replay_check.specs.Positions.{IsPosition, log_position, Gains, reported, off_base, definition_report, IsDefined, with_definition, IsDefinitionVerdict}
 use Rattle.replay_check.specs.declared.why.Verdict.TheVariants.{Good}
-use Rattle.replay_check.proofs.Taking.{position_stays, position_same}
+use Rattle.replay_check.proofs.Taking.{position_same}
 use Rattle.replay_check.proofs.Named.{constant_named, type_named}
 use Rattle.replay_check.proofs.Later.{definition_stays, definition_same, definitions_stay, definitions_same, sequents_stay, sequents_same}
 

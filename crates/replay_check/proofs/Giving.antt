@@ -1,16 +1,16 @@
 -- What a step over the tables gives is what the step gives that it stands for.
-use Rattle.std.proofs.Common.{◌≡◌, ℕ, zero, suc, ◌<◌, ◌≤◌, ◌^◌, Bool, true, false, not, ◌||◌, List, [], ◌∷◌, length, Option, Some, None, Result, Ok, Err, refl, sym, ap, ◌∙◌, subst, arith, slice_get, nat_lt}
+use Rattle.std.proofs.Common.{◌≡◌, ℕ, zero, suc, Bool, true, false, not, List, [], ◌∷◌, Option, Some, None, Result, Ok, Err, refl, sym, ap, ◌∙◌, subst, slice_get}
 use Rattle.std.specs.List.{list_any}
 use Rattle.std.specs.Prelude.{unwrap_or, IfOk, IfSome}
-use Rattle.std.proofs.lemmas.Bool.{or_parts, not-false}
+use Rattle.std.proofs.lemmas.Bool.{or_parts}
 use Rattle.hol_terms.specs.Ty.{ty_var}
 use Rattle.hol_terms.specs.Tm.{tm_index}
 use Rattle.hol_terms.specs.Typing.{tm_type}
-use Rattle.hol_terms.specs.Definition.{Definition, bool_ty}
+use Rattle.hol_terms.specs.Definition.{bool_ty}
 use Rattle.hol_terms.specs.Sequent.{Sequent, seq, left_of, argument, union}
 use Rattle.hol_terms.specs.Rules.{both, if_so, is_equation, same, eq_mp_rule, inst_type_rule}
 use Rattle.hol_terms.specs.Subst.{TySubst}
-use Rattle.hol_logs.specs.Step.{LogStep, sequent_at, step_gives}
+use Rattle.hol_logs.specs.Step.{LogStep, sequent_at}
 use Rattle.flat_terms.specs.Plain.{PlainTables, term_of}
 use Rattle.flat_terms.specs.declared.nodes.TermId.{TermId}
 use Rattle.flat_instances.specs.Retypings.{KeepsType}

@@ -1,18 +1,17 @@
 -- What stands in tables stands in those that they grow to.
-use Rattle.std.proofs.Common.{◌≡◌, ◌⊎◌, ℕ, ◌<◌, ◌≤◌, take, Bool, true, false, ◌||◌, List, [], ◌∷◌, map, length, Option, Some, None, refl, sym, ap, ◌∙◌, subst, slice_get}
+use Rattle.std.proofs.Common.{◌≡◌, ◌⊎◌, ℕ, ◌<◌, ◌≤◌, take, Bool, true, false, ◌||◌, List, [], ◌∷◌, length, Option, Some, None, refl, sym, ap, ◌∙◌, subst, slice_get}
 use Rattle.std.proofs.lemmas.List.{length-map}
 use Rattle.std.specs.Prelude.{option_to_list}
 use Rattle.std.specs.List.{list_any}
-use Rattle.hol_terms.specs.Tm.{Tm}
 use Rattle.hol_terms.specs.Typing.{tm_type}
 use Rattle.hol_terms.specs.Signature.{Signature}
-use Rattle.hol_terms.specs.Definition.{Definition, const_def, type_def, bool_ty, signature_of}
+use Rattle.hol_terms.specs.Definition.{Definition, const_def, type_def, signature_of}
 use Rattle.hol_terms.specs.Sequent.{Sequent, seq}
 use Rattle.hol_terms.specs.Base.{base}
 use Rattle.hol_terms.specs.Proves.{IsPrefix}
 use Rattle.hol_logs.specs.Step.{same_definition, are_base, if_connectives}
 use Rattle.hol_logs.specs.Position.{is_next_base}
-use Rattle.flat_terms.specs.Plain.{PlainTables, HasTerm, term_of}
+use Rattle.flat_terms.specs.Plain.{PlainTables}
 use Rattle.flat_terms.specs.declared.nodes.TermId.{TermId}
 use Rattle.flat_instances.specs.TablesGrow.{TablesGrow}
 use Rattle.flat_rules.specs.declared.sequent.FlatSequent.{FlatSequent}
@@ -20,7 +19,7 @@ use Rattle.flat_rules.specs.Sequents.{HasTerms, terms_of, sequent_of, HasSequent
 use Rattle.replay_check.specs.declared.definitions.FlatDefinition.{FlatDefinition}
 use Rattle.replay_check.specs.declared.definitions.FlatDefinition.TheVariants.{Constant, NewType}
 use Rattle.replay_check.specs.InForce.{in_force}
-use Rattle.replay_check.specs.Definitions.{definition_of, HasDefinition, definitions_of, HasDefinitions, IsPut, AreSequents, sequents_of}
+use Rattle.replay_check.specs.Definitions.{definition_of, HasDefinition, definitions_of, HasDefinitions, AreSequents, sequents_of}
 use Rattle.replay_check.proofs.BaseReads.{prefix_is, no_axiom, ten_stand}
 
 pub definition_stays : (t u : PlainTables) (d : FlatDefinition) → TablesGrow t u → HasDefinition t d → HasDefinition u d

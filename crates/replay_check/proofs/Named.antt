@@ -1,7 +1,7 @@
 -- Definitions that are not unfit are called by names, and so canonical text reads back over them.
-use Rattle.std.proofs.Common.{◌≡◌, inl, inr, ◌≤◌, ℕ, Bool, true, false, cond, not, ◌&&◌, ◌||◌, List, [], ◌∷◌, ◌++◌, Some, bytes_eq, codes, refl, sym, ap, ◌∙◌, subst}
+use Rattle.std.proofs.Common.{◌≡◌, inl, inr, ◌≤◌, ℕ, Bool, true, false, cond, not, ◌&&◌, List, [], ◌∷◌, ◌++◌, Some, bytes_eq, codes, refl, sym, ◌∙◌, subst}
 use Rattle.std.specs.List.{flat_map}
-use Rattle.std.proofs.lemmas.Bool.{and_parts, or_parts, not-true, not-false}
+use Rattle.std.proofs.lemmas.Bool.{and_parts, not-true}
 use Rattle.std.proofs.lemmas.Slice.Eq.{bytes_eq-Decides}
 use Rattle.hol_terms.specs.Name.{Name, is_name, is_numbered, dot_abs, dot_rep}
 use Rattle.hol_terms.specs.Ty.{Ty}
@@ -10,7 +10,6 @@ use Rattle.hol_terms.specs.Signature.{Signature, entry_at, generic_of, is_new, m
 use Rattle.hol_terms.specs.TypeNames.{may_introduce_type}
 use Rattle.hol_terms.specs.Definition.{Definition, const_def, type_def, types_of, consts_of, signature_of}
 use Rattle.hol_terms.specs.Base.{base, base_definitions}
-use Rattle.hol_terms.specs.Proves.{IsPrefix}
 use Rattle.hol_terms.specs.ReadsBack.{ReadsBack, signed}
 use Rattle.hol_terms.proofs.AsciiNames.{is_name_from_ascii}
 use Rattle.hol_terms.proofs.BaseOpened.{opened_bases}

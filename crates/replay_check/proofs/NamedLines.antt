@@ -1,20 +1,15 @@
 -- The base line, and the lines that name theorems.
-use Rattle.std.proofs.Common.{◌≡◌, ℕ, zero, suc, ◌+◌, Bool, true, false, cond, not, ◌&&◌, ◌||◌, ◌==◌, List, [], ◌∷◌, ◌++◌, Some, codes, length, nat_lt, refl, sym, ap, ◌∙◌, subst, arith, append-nil, slice_get}
-use Rattle.std.specs.Prelude.{unwrap_or, String, string_bytes, Vec}
+use Rattle.std.proofs.Common.{◌≡◌, ℕ, ◌+◌, Bool, true, false, cond, not, ◌&&◌, ◌||◌, ◌==◌, List, [], ◌∷◌, ◌++◌, Some, codes, length, nat_lt, refl, sym, ap, ◌∙◌, subst, arith, append-nil}
+use Rattle.std.specs.Prelude.{String, string_bytes, Vec}
 use Rattle.std.specs.Vec.{vec_len}
 use Rattle.std.specs.declared.alloc.Global.{Global}
-use Rattle.std.specs.Option.{option_map}
 use Rattle.std.proofs.lemmas.Bool.{not-false}
 use Rattle.std.proofs.lemmas.List.{length-map, length-append, nil_from_length}
-use Rattle.std.proofs.lemmas.Option.{slice_get-map}
-use Rattle.hol_terms.specs.Ty.{ty_var}
-use Rattle.hol_terms.specs.Tm.{tm_index}
 use Rattle.hol_terms.specs.Definition.{Definition}
-use Rattle.hol_terms.specs.Sequent.{seq}
 use Rattle.hol_terms.specs.Rules.{same}
 use Rattle.hol_terms.specs.Base.{base, base_definitions}
 use Rattle.hol_terms.specs.Text.{theorem_line}
-use Rattle.hol_logs.specs.Step.{numeral, sequent_at, are_base}
+use Rattle.hol_logs.specs.Step.{numeral, are_base}
 use Rattle.hol_logs.specs.Line.{line_base, line_name}
 use Rattle.hol_logs.specs.Position.{is_off_base, is_too_early, states, by_base, by_text, first_cause}
 use Rattle.hol_logs.proofs.BaseStands.{base_is, are_base-from}
@@ -26,18 +21,17 @@ use Rattle.flat_terms.specs.Plain.{PlainTables, name_of, term_of}
 use Rattle.flat_terms.specs.declared.nodes.NameId.{NameId}
 use Rattle.flat_terms.specs.declared.nodes.TermId.{TermId}
 use Rattle.flat_rules.specs.declared.sequent.FlatSequent.{FlatSequent}
-use Rattle.flat_rules.specs.Sequents.{sequent_of, HasSequent}
+use Rattle.flat_rules.specs.Sequents.{sequent_of}
 use Rattle.replay_check.specs.declared.position.Position.{Position}
 use Rattle.replay_check.specs.declared.why.Verdict.TheVariants.{Good}
 use Rattle.replay_check.specs.InForce.{in_force}
-use Rattle.replay_check.specs.Definitions.{definitions_of, definition_of, AreSequents, sequents_of}
+use Rattle.replay_check.specs.Definitions.{definitions_of, definition_of, sequents_of}
 use Rattle.replay_check.specs.Steps.{is_there, IsAt}
 use Rattle.replay_check.specs.Positions.{log_position, IsPosition, IsInside, IsVerdict}
+use Rattle.replay_check.proofs.Taking.{placed}
+use Rattle.replay_check.proofs.Giving.{stands_at}
 use Rattle.replay_check.proofs.SameNumbers.{same_by}
 use Rattle.replay_check.proofs.Verdicts.{base_bad, base_good, name_other, name_good, position_is, adds_nothing, or_false}
-
-pub placed : (p : Position) → IsInside p → (p.is_over || cond (p.lines == 0) true false) ≡ false
-placed p h = ap (λ b. b || cond (p.lines == 0) true false) h.not_over ∙ ap (λ b. cond b true false) h.not_first
 
 -- ---- the base line
 
@@ -101,23 +95,6 @@ base_taken p m s h i b e k t =
 
 -- ---- named theorems
 
-some_is : {A : Type 0} (x y : A) → Some x ≡ Some y → x ≡ y
-some_is x y e = cc
-
-held : (t : PlainTables) (qs : List FlatSequent) (n : ℕ) (q : FlatSequent) → AreSequents t qs → slice_get qs n ≡ Some q → HasSequent t q
-held t [] n q h e = cc
-held t (x ∷ qs) zero q h e = subst (HasSequent t) (some_is x q e) h.0
-held t (x ∷ qs) (suc n) q h e = held t qs n q h.2 e
-
-pub sequent_held : (t : PlainTables) (qs : List FlatSequent) (i : Number) (q : FlatSequent) → AreSequents t qs → IsAt qs i q → HasSequent t q
-sequent_held t qs (Small n) q h e = held t qs n q h e
-sequent_held t qs Huge q h e = absurd e
-
-pub stands_at : (t : PlainTables) (qs : List FlatSequent) (i : Number) (q : FlatSequent) (n : ℕ) → IsNumber i n → IsAt qs i q → sequent_at (sequents_of t qs) n ≡ sequent_of t q
-stands_at t qs (Small m) q n i e =
-    ap (sequent_at (sequents_of t qs)) (sym i) ∙ ap (λ o. unwrap_or o (seq [] (tm_index 0 (ty_var [])))) (slice_get-map (sequent_of t) qs m ∙ ap (option_map (sequent_of t)) e)
-stands_at t qs Huge q n i e = absurd e
-
 pub step_there : (t : PlainTables) (qs : List FlatSequent) (i : Number) (n : ℕ) → IsNumber i n → is_there (length qs) i ≡ true → (not (nat_lt n (length (sequents_of t qs))) || false) ≡ false
 step_there t qs (Small m) n i e =
     ap (λ k. not (nat_lt k (length (sequents_of t qs))) || false) (sym i) ∙ ap (λ k. not (nat_lt m k) || false) (length-map qs (sequent_of t)) ∙ ap (λ b. not b || false) e
@@ -149,7 +126,7 @@ named_other : (p : Position) (c : NameId) (step : Number) (n : TermId) (q : Flat
     → first_cause in_force (log_position p) (line_name (name_of p.tables c) i (term_of p.tables n)) ≡ Some by_text
 named_other p c step n q i h k s =
     name_other in_force (log_position p) (name_of p.tables c) i (term_of p.tables n) (placed p h.inside) (step_there p.tables p.sequents.items step i k h.there) h.based
-    (ap (λ a. states a (term_of p.tables n)) (stands_at p.tables p.sequents.items step q i k h.at) ∙ s)
+    (ap (λ a. states a (term_of p.tables n)) (stands_at p.tables p.sequents.items step q i h.at k) ∙ s)
 
 pub named_with_hypotheses : (p : Position) (c : NameId) (step : Number) (n : TermId) (q : FlatSequent) (i : ℕ) → Names p step q → IsNumber step i → (length q.hyps.items == 0) ≡ false
     → first_cause in_force (log_position p) (line_name (name_of p.tables c) i (term_of p.tables n)) ≡ Some by_text
@@ -167,7 +144,7 @@ pub name_taken : (p : Position) (c : NameId) (step : Number) (n : TermId) (q : F
 name_taken p c step n q i r s g h k z e there back t =
     let l = line_name (name_of p.tables c) i (term_of p.tables n) in (
       name_good in_force (log_position p) (name_of p.tables c) i (term_of p.tables n) (placed p h.inside) (step_there p.tables p.sequents.items step i k h.there) h.based
-          (ap (λ a. states a (term_of p.tables n)) (stands_at p.tables p.sequents.items step q i k h.at) ∙ the_same p.tables q n r z e (same_by (term_of p.tables q.concl) (term_of p.tables n) r there back)),
+          (ap (λ a. states a (term_of p.tables n)) (stands_at p.tables p.sequents.items step q i h.at k) ∙ the_same p.tables q n r z e (same_by (term_of p.tables q.concl) (term_of p.tables n) r there back)),
       record { signature = g.signature; plain = g.plain; definitions = g.definitions; sequents = g.sequents; named = g.named; stands = g.stands },
       position_is (log_position p) l (adds_nothing (definitions_of p.tables p.definitions.items)) (adds_nothing (sequents_of p.tables p.sequents.items)) (omega arith) (or_false p.is_based) (or_false p.is_over),
       ap (λ x. x ∷ []) t,

@@ -1,5 +1,5 @@
 -- Definitions are the same where their numbers are.
-use Rattle.std.proofs.Common.{◌≡◌, Bool, true, false, refl, sym, ap, ◌∙◌, subst, bytes_eq}
+use Rattle.std.proofs.Common.{◌≡◌, Bool, true, false, refl, sym, ap, ◌∙◌, bytes_eq}
 use Rattle.hol_terms.specs.Tm.{Tm}
 use Rattle.hol_terms.specs.Rules.{both, same}
 use Rattle.hol_terms.proofs.Same.{same-is, same_refl}

@@ -1,5 +1,5 @@
 -- A step's line, and the position behind it.
-use Rattle.std.proofs.Common.{◌≡◌, ◌⊎◌, ℕ, suc, ◌+◌, ◌<◌, ◌≤◌, ◌^◌, Bool, true, false, cond, not, ◌||◌, ◌==◌, List, [], ◌∷◌, ◌++◌, map, length, Option, Some, None, refl, sym, ap, ◌∙◌, subst, arith, nat_lt, append-nil}
+use Rattle.std.proofs.Common.{◌≡◌, ◌⊎◌, ℕ, suc, ◌<◌, ◌^◌, Bool, true, false, cond, not, ◌||◌, List, [], ◌∷◌, ◌++◌, length, Option, Some, None, refl, sym, ap, ◌∙◌, subst, arith, nat_lt}
 use Rattle.std.specs.Prelude.{option_to_list}
 use Rattle.std.specs.List.{list_any}
 use Rattle.std.proofs.lemmas.Bool.Decides.{nat_tests}
@@ -10,10 +10,9 @@ use Rattle.hol_terms.specs.Sequent.{Sequent}
 use Rattle.hol_terms.specs.Text.{Text}
 use Rattle.hol_terms.specs.Base.{base}
 use Rattle.hol_terms.specs.Proves.{IsPrefix}
-use Rattle.hol_terms.specs.ReadsBack.{ReadsBack}
 use Rattle.hol_logs.specs.Step.{LogStep, step_gives, premises}
-use Rattle.hol_logs.specs.Line.{LogLine, line_step}
-use Rattle.hol_logs.specs.Position.{LogPosition, first_cause, after, is_misplaced, lacks_a_step, by_number, by_rule}
+use Rattle.hol_logs.specs.Line.{line_step}
+use Rattle.hol_logs.specs.Position.{first_cause, lacks_a_step, by_rule}
 use Rattle.hol_logs.proofs.Standing.{Stands, about_ten}
 use Rattle.flat_terms.specs.Plain.{PlainTables}
 use Rattle.flat_instances.specs.TablesGrow.{TablesGrow}
@@ -26,31 +25,23 @@ use Rattle.flat_lines.specs.declared.numbers.Number.TheVariants.{Small, Huge}
 use Rattle.flat_lines.specs.declared.steps.FlatStep.{FlatStep}
 use Rattle.flat_lines.specs.declared.steps.FlatStep.TheVariants.{Refl, Trans, Comb, Abs, Beta, Assume, Mp, Deduct, InstType, Inst, Axiom}
 use Rattle.flat_lines.specs.Numbers.{IsNumber}
-use Rattle.flat_lines.specs.Lines.{IsFlatStep, IsOf, IsOfTwo}
+use Rattle.flat_lines.specs.Lines.{IsFlatStep}
 use Rattle.replay_check.specs.declared.definitions.FlatDefinition.{FlatDefinition}
 use Rattle.replay_check.specs.declared.position.Position.{Position}
-use Rattle.replay_check.specs.declared.why.Verdict.TheVariants.{Good, Bad}
+use Rattle.replay_check.specs.declared.why.Verdict.TheVariants.{Good}
 use Rattle.replay_check.specs.InForce.{in_force}
 use Rattle.replay_check.specs.Named.{AreNamed}
 use Rattle.replay_check.specs.Definitions.{definitions_of, HasDefinitions, AreSequents, sequents_of, IsBooleanAnswer}
 use Rattle.replay_check.specs.Steps.{is_there, flat_premises}
-use Rattle.replay_check.specs.Positions.{IsPosition, IsInside, log_position, Gains, IsVerdict, reported}
-use Rattle.replay_check.proofs.Named.{reads_back}
-use Rattle.replay_check.proofs.Verdicts.{step_lacks, step_fails, step_good, position_is, adds_nothing, or_false}
+use Rattle.replay_check.specs.Positions.{IsPosition, IsInside, log_position, IsVerdict}
+use Rattle.replay_check.proofs.Verdicts.{step_fails, step_good, position_is, adds_nothing, or_false}
 use Rattle.replay_check.proofs.Later.{definitions_same, definitions_stay, sequents_same, sequents_stay}
-use Rattle.replay_check.proofs.Taking.{position_stays, position_same}
+use Rattle.replay_check.proofs.Taking.{placed}
 
 -- ---- what a position gives
 
-pub reads_back_at : (p : Position) → IsPosition p → ReadsBack (plain_signature p.tables p.signature)
-reads_back_at p h = subst ReadsBack (sym h.plain) (reads_back in_force p.is_based (definitions_of p.tables p.definitions.items) (omega arith) h.stands h.named)
-
 pub ten_at : (p : Position) → IsPosition p → IsPrefix (base 10) (definitions_of p.tables p.definitions.items) ⊎ IsPrefix (definitions_of p.tables p.definitions.items) (base 10)
 ten_at p h = about_ten in_force p.is_based (definitions_of p.tables p.definitions.items) (omega arith) h.stands
-
--- no line but the first, and none behind the last
-pub placed_inside : (p : Position) → IsInside p → (p.is_over || cond (p.lines == 0) true false) ≡ false
-placed_inside p h = (λ i. h.not_over i || cond (h.not_first i) true false)
 
 -- ---- numbers of steps
 
@@ -118,7 +109,7 @@ moved_answer : (ds es : List Definition) (qs rs : List Sequent) (l : LogStep) (o
 moved_answer ds es qs rs l o d q e = (λ i. step_gives (sym d i) (sym q i) l) ∙ e
 
 pub step_refused : (p : Position) (l : LogStep) (t : PlainTables) → IsInside p → lacks_a_step (log_position p) (line_step l) ≡ false → IsAnswer t (step_gives (log_position p).defs (log_position p).steps l) None → first_cause in_force (log_position p) (line_step l) ≡ Some by_rule
-step_refused p l t i k h = step_fails in_force (log_position p) l (placed_inside p i) k h
+step_refused p l t i k h = step_fails in_force (log_position p) l (placed p i) k h
 
 nothing : (b : Bool) → ◌≡◌ {A = List Text} [] (cond b [] [])
 nothing true = refl
@@ -128,7 +119,7 @@ pub step_taken : (p q : Position) (l : LogStep) (a : FlatSequent) → IsPosition
     → q.lines ≡ suc p.lines → q.is_based ≡ p.is_based → q.is_over ≡ p.is_over → lacks_a_step (log_position p) (line_step l) ≡ false
     → IsAnswer q.tables (step_gives (log_position p).defs (log_position p).steps l) (Some a) → IsBooleanAnswer q.tables (Some a) → IsVerdict p q (line_step l) (Good None)
 step_taken p q l a h i g sig defs seqs lines based over k answer boolean =
-    let good = step_good in_force (log_position p) l (sequent_of q.tables a) (placed_inside p i) k answer.1 in
+    let good = step_good in_force (log_position p) l (sequent_of q.tables a) (placed p i) k answer.1 in
     let ds : definitions_of q.tables q.definitions.items ≡ definitions_of p.tables p.definitions.items = ap (λ x. definitions_of q.tables x.items) defs ∙ definitions_same p.tables q.tables p.definitions.items g h.definitions in
     let gives : sequents_of q.tables q.sequents.items ≡ (log_position p).steps ++ option_to_list (step_gives (log_position p).defs (log_position p).steps l) =
     more_sequents p q a h g seqs ∙ ap (λ o. (log_position p).steps ++ option_to_list o) (sym answer.1) in (

@@ -58,6 +58,9 @@ section_inside p f x r e h n =
     let q = neither p.is_over _ placed in
     record { not_over = q.0; not_first = started (p.lines == 0) q.1 }
 
+pub placed : (p : Position) → IsInside p → (p.is_over || cond (p.lines == 0) true false) ≡ false
+placed p h = ap (λ b. b || cond (p.lines == 0) true false) h.not_over ∙ ap (λ b. cond b true false) h.not_first
+
 -- ---- texts
 
 pub joined_utf8 : (a b : Text) → is_utf8 a ≡ true → is_utf8 b ≡ true → is_utf8 (a ++ b) ≡ true

@@ -1,14 +1,14 @@
 -- The line of a type's definition.
-use Rattle.std.proofs.Common.{◌≡◌, ℕ, Bool, true, false, not, ◌||◌, ◌==◌, List, [], ◌∷◌, ◌++◌, map, length, Option, Some, None, refl, sym, ap, ◌∙◌, subst}
+use Rattle.std.proofs.Common.{◌≡◌, ℕ, Bool, true, false, not, ◌||◌, ◌==◌, [], ◌∷◌, ◌++◌, length, Some, sym, ap, ◌∙◌}
 use Rattle.std.proofs.lemmas.Bool.{or_parts, not-false}
 use Rattle.hol_terms.specs.Name.{Name}
 use Rattle.hol_terms.specs.Signature.{Signature}
 use Rattle.hol_terms.specs.TypeNames.{may_introduce_type}
-use Rattle.hol_terms.specs.Definition.{Definition, type_def, signature_of, has_frees}
+use Rattle.hol_terms.specs.Definition.{Definition, type_def, has_frees}
 use Rattle.hol_terms.specs.Sequent.{Sequent}
 use Rattle.hol_logs.specs.Step.{sequent_at}
 use Rattle.hol_logs.specs.Line.{LogLine, line_type}
-use Rattle.hol_logs.specs.Position.{LogPosition, first_cause, after, lacks_a_step, is_application, predicate_of, is_unfit_type, by_base, by_unfit}
+use Rattle.hol_logs.specs.Position.{first_cause, after, lacks_a_step, is_application, predicate_of, is_unfit_type, by_unfit}
 use Rattle.flat_terms.specs.Plain.{PlainTables, HasName, name_of, term_of}
 use Rattle.flat_terms.specs.declared.nodes.NameId.{NameId}
 use Rattle.flat_terms.specs.declared.nodes.TermId.{TermId}
@@ -20,10 +20,9 @@ use Rattle.replay_check.specs.declared.why.Verdict.{Verdict}
 use Rattle.replay_check.specs.declared.why.Verdict.TheVariants.{Good, Bad}
 use Rattle.replay_check.specs.InForce.{in_force}
 use Rattle.replay_check.specs.Definitions.{is_unfit_type_over, IsPredicate, IsPredicateType}
-use Rattle.replay_check.specs.Positions.{IsPosition, IsInside, log_position, Gains, cause_of, reported, off_base, definition_report, with_definition, IsDefinitionVerdict, IsVerdict}
+use Rattle.replay_check.specs.Positions.{IsPosition, IsInside, log_position, Gains, cause_of, off_base, definition_report, with_definition, IsDefinitionVerdict, IsVerdict}
 use Rattle.replay_check.proofs.Verdicts.{type_unfit, type_early, type_good, or_false}
-use Rattle.replay_check.proofs.StepLines.{placed_inside}
-use Rattle.replay_check.proofs.Taking.{position_same}
+use Rattle.replay_check.proofs.Taking.{placed, position_same}
 
 -- the test of the theorem at a place, over the signature of the definitions
 unfit_same : (p : Position) (c : Name) (i : ℕ) (a : Sequent) (b : Bool) → IsPosition p → sequent_at (log_position p).steps i ≡ a → is_unfit_type_over (plain_signature p.tables p.signature) c a ≡ b
@@ -32,7 +31,7 @@ unfit_same p c i a b h s e = (λ j. is_unfit_type_over (sym h.plain j) c (s j)) 
 
 pub type_refused : (p : Position) (c : Name) (i : ℕ) (a : Sequent) → IsPosition p → IsInside p → lacks_a_step (log_position p) (line_type c i) ≡ false → sequent_at (log_position p).steps i ≡ a
     → is_unfit_type_over (plain_signature p.tables p.signature) c a ≡ true → first_cause in_force (log_position p) (line_type c i) ≡ Some by_unfit
-type_refused p c i a h g k s e = type_unfit in_force (log_position p) c i (placed_inside p g) k (unfit_same p c i a true h s e)
+type_refused p c i a h g k s e = type_unfit in_force (log_position p) c i (placed p g) k (unfit_same p c i a true h s e)
 
 -- m is the position p with more in its tables
 pub type_verdict : (p m q : Position) (c : NameId) (n : TermId) (i : ℕ) (a : Sequent) (v : Verdict) → IsPosition p → IsInside p → Gains p m → HasName p.tables c → lacks_a_step (log_position p) (line_type (name_of p.tables c) i) ≡ false
@@ -63,8 +62,8 @@ type_verdict p m q c n i a v h g gains has k s t e w = at v w
 
     at : (v : Verdict) → IsDefinitionVerdict m q (type_def (name_of m.tables c) (term_of m.tables n)) v → IsVerdict p q l v
     at (Good r) w =
-        (type_good in_force (log_position p) (name_of p.tables c) i (placed_inside p g) k unfit (sym off ∙ w.0), w.1, w.2 ∙ (λ j. with_definition (here j) (same j)) ∙ behind, w.3 ∙ (λ j. definition_report (here j) (same j)))
-    at (Bad y) w = type_early in_force (log_position p) (name_of p.tables c) i (placed_inside p g) k unfit (sym off ∙ w.1) ∙ ap (λ z. Some (cause_of z)) (sym w.0)
+        (type_good in_force (log_position p) (name_of p.tables c) i (placed p g) k unfit (sym off ∙ w.0), w.1, w.2 ∙ (λ j. with_definition (here j) (same j)) ∙ behind, w.3 ∙ (λ j. definition_report (here j) (same j)))
+    at (Bad y) w = type_early in_force (log_position p) (name_of p.tables c) i (placed p g) k unfit (sym off ∙ w.1) ∙ ap (λ z. Some (cause_of z)) (sym w.0)
 
 fit_name : (s : Signature) (c : Name) (a : Sequent) → is_unfit_type_over s c a ≡ false → may_introduce_type s c ≡ true
 fit_name s c a e =

@@ -1,15 +1,14 @@
 -- The first cause of a line of each kind, and the position behind a good one.
-use Rattle.std.proofs.Common.{◌≡◌, ℕ, suc, ◌+◌, Bool, true, false, cond, not, ◌&&◌, ◌||◌, ◌==◌, List, [], ◌∷◌, ◌++◌, Option, Some, None, map, length, refl, sym, ap, ◌∙◌, append-nil}
-use Rattle.std.specs.Prelude.{is_none, option_to_list}
+use Rattle.std.proofs.Common.{◌≡◌, ℕ, suc, Bool, true, false, cond, not, ◌||◌, ◌==◌, List, [], ◌∷◌, ◌++◌, Some, None, refl, sym, ap, append-nil}
+use Rattle.std.specs.Prelude.{is_none}
 use Rattle.hol_terms.specs.Name.{Name}
 use Rattle.hol_terms.specs.Tm.{Tm}
-use Rattle.hol_terms.specs.Definition.{Definition, const_def, type_def}
+use Rattle.hol_terms.specs.Definition.{Definition}
 use Rattle.hol_terms.specs.Sequent.{Sequent}
-use Rattle.hol_terms.specs.Text.{Text, definition_line}
-use Rattle.hol_terms.specs.Proves.{sequents_of}
-use Rattle.hol_logs.specs.Step.{LogStep, step_gives, sequent_at, are_base}
+use Rattle.hol_terms.specs.Text.{Text}
+use Rattle.hol_logs.specs.Step.{LogStep, step_gives, sequent_at}
 use Rattle.hol_logs.specs.Line.{LogLine, line_first, line_step, line_const, line_type, line_base, line_section, line_name, line_end, line_stop}
-use Rattle.hol_logs.specs.Position.{LogPosition, after, report_of, definitions_by, sequents_by, is_base_line, is_last, predicate_of, Why, by_form, by_number, by_rule, by_unfit, by_base, by_text, by_count, is_misplaced, lacks_a_step, breaks_its_rule, is_unfit, is_unfit_const, is_unfit_type, is_next_base, is_off_base, states, names_another, miscounts, first_of, first_cause}
+use Rattle.hol_logs.specs.Position.{LogPosition, after, definitions_by, sequents_by, is_base_line, is_last, by_form, by_number, by_rule, by_unfit, by_base, by_text, by_count, is_misplaced, lacks_a_step, breaks_its_rule, is_unfit, is_unfit_const, is_off_base, states, names_another, miscounts, first_of, first_cause}
 
 -- the tests of all causes decide
 pub record HasTests (n : ℕ) (p : LogPosition) (l : LogLine) (a b c d e f g : Bool) : Type 0 where

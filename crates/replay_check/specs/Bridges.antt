@@ -1,5 +1,5 @@
 -- What a type definition introduces, by its numbers.
-use Rattle.std.specs.Prelude.{◌≡◌, [], ◌∷◌, ◌++◌}
+use Rattle.std.specs.Prelude.{[], ◌∷◌, ◌++◌}
 use Rattle.hol_terms.specs.Name.{Name, dot_abs, dot_rep}
 use Rattle.hol_terms.specs.Ty.{Ty}
 use Rattle.hol_terms.specs.Tm.{Tm}

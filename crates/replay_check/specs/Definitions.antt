@@ -3,7 +3,7 @@ use Rattle.std.specs.Prelude.{◌≡◌, ℕ, Bool, true, false, not, ◌||◌, 
 use Rattle.std.specs.Borrow.{Bor}
 use Rattle.hol_terms.specs.Name.{Name}
 use Rattle.hol_terms.specs.Ty.{Ty, ty_var, ty_app}
-use Rattle.hol_terms.specs.Tm.{Tm, tm_comb}
+use Rattle.hol_terms.specs.Tm.{Tm}
 use Rattle.hol_terms.specs.Typing.{tm_type, domain_ty, fun_ty}
 use Rattle.hol_terms.specs.TyVars.{tm_within}
 use Rattle.hol_terms.specs.Signature.{Signature, IsOver, may_introduce, tys_count}

@@ -1,5 +1,5 @@
 -- Positions over the tables, and what comes of a line.
-use Rattle.std.specs.Prelude.{◌≡◌, ℕ, suc, Bool, List, [], ◌∷◌, ◌++◌, true, false, not, ◌==◌, if◌then◌else◌, Option, Some, None, string_bytes, String}
+use Rattle.std.specs.Prelude.{◌≡◌, suc, Bool, List, [], ◌∷◌, ◌++◌, true, false, not, ◌==◌, if◌then◌else◌, Option, Some, None, string_bytes, String}
 use Rattle.std.specs.declared.alloc.Global.{Global}
 use Rattle.hol_terms.specs.Definition.{Definition, signature_of}
 use Rattle.hol_terms.specs.Proves.{sequents_of as said_by}
@@ -8,7 +8,7 @@ use Rattle.hol_logs.specs.Line.{LogLine, IsLineOver}
 use Rattle.flat_lines.specs.declared.lines.FlatLine.{FlatLine}
 use Rattle.flat_lines.specs.Lines.{IsFlatLine}
 use Rattle.hol_logs.specs.Position.{LogPosition, after, report_of, first_cause, is_next_base, Why, by_form, by_number, by_rule, by_unfit, by_base, by_text, by_count, by_cut}
-use Rattle.hol_logs.specs.Log.{HasForm, IsGood, IsBad}
+use Rattle.hol_logs.specs.Log.{HasForm, IsBad}
 use Rattle.hol_logs.proofs.Standing.{Stands}
 use Rattle.flat_instances.specs.TablesGrow.{TablesGrow}
 use Rattle.flat_signatures.specs.FlatNames.{plain_signature, HasSignature}

@@ -1,4 +1,4 @@
-use Rattle.std.proofs.Common.{◌≡◌, [], Some, refl, sym, ap, ◌∙◌, subst}
+use Rattle.std.proofs.Common.{Some, sym, ap, ◌∙◌, subst}
 use Rattle.hol_terms.specs.Typing.{tm_type}
 use Rattle.hol_terms.specs.Sequent.{Sequent, seq}
 use Rattle.flat_terms.specs.Plain.{term_of}

@@ -1,4 +1,4 @@
-use Rattle.replay_check.proofs.Later.{prefix_before, definition_stays, next_is, next_not}
+use Rattle.replay_check.proofs.Later.{prefix_before, definition_stays}
 use Rattle.replay_check.proofs.bases.is_next_base.Goals as goal
 
 pub put_base-requires-clause-before : goal.put_base-requires-clause-before

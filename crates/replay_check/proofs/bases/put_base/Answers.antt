@@ -1,6 +1,3 @@
-use Rattle.std.proofs.Common.{◌≡◌, refl, sym, ap, ◌∙◌, subst}
-use Rattle.hol_terms.specs.Definition.{const_def, type_def}
-use Rattle.flat_terms.specs.Plain.{name_of, term_of}
 use Rattle.flat_instances.proofs.TablesGrow.{tables_grow_further}
 use Rattle.replay_check.proofs.BaseReads.{not_in_force, never_past, text_over, put_constant, put_type}
 use Rattle.replay_check.proofs.bases.put_base.Goals as goal

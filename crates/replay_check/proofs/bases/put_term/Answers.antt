@@ -1,4 +1,4 @@
-use Rattle.std.proofs.Common.{◌≡◌, ◌<◌, ◌^◌, [], length, Some, None, ap, sym, ◌∙◌, subst, arith}
+use Rattle.std.proofs.Common.{[], Some, ap, sym, ◌∙◌, subst, arith}
 use Rattle.strict_reading.specs.Terms.{reads_term}
 use Rattle.flat_signatures.specs.FlatNames.{plain_signature}
 use Rattle.flat_reading.specs.Reads.{IsTermRead}

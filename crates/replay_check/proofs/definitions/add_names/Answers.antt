@@ -1,5 +1,5 @@
 use Rattle.flat_signatures.specs.FlatNames.{plain_signature}
-use Rattle.flat_terms.specs.Plain.{name_of, type_of}
+use Rattle.flat_terms.specs.Plain.{name_of}
 use Rattle.replay_check.proofs.TypeNames.{rep_behind_abs}
 use Rattle.replay_check.proofs.definitions.add_names.Goals as goal
 

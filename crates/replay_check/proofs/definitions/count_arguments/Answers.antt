@@ -1,5 +1,4 @@
 use Rattle.std.proofs.Common.{ap, sym, ◌∙◌}
-use Rattle.flat_terms.specs.Plain.{types_of}
 use Rattle.replay_check.specs.Definitions.{count_of}
 use Rattle.replay_check.proofs.TypeNames.{counted}
 use Rattle.replay_check.proofs.definitions.count_arguments.Goals as goal

@@ -1,9 +1,6 @@
-use Rattle.std.proofs.Common.{sym, ap, ◌∙◌, subst}
-use Rattle.hol_terms.specs.TypeNames.{may_introduce_type}
-use Rattle.flat_terms.specs.Plain.{name_of, term_of}
+use Rattle.std.proofs.Common.{sym, subst}
 use Rattle.flat_instances.proofs.TablesGrow.{tables_grow_further}
-use Rattle.flat_signatures.specs.FlatNames.{plain_signature}
-use Rattle.flat_signatures.proofs.Signatures.{signature_there, signature_same}
+use Rattle.flat_signatures.proofs.Signatures.{signature_there}
 use Rattle.replay_check.specs.Bridges.{AreBridgeNames}
 use Rattle.replay_check.proofs.TypeNames.{still_new, defined_type}
 use Rattle.replay_check.proofs.definitions.introduce_type.Goals as goal

@@ -1,5 +1,3 @@
-use Rattle.std.proofs.Common.{sym, ap, ◌∙◌}
-use Rattle.hol_terms.specs.Typing.{fun_ty, tm_type}
 use Rattle.flat_terms.specs.Plain.{name_of, term_of}
 use Rattle.flat_instances.proofs.TablesGrow.{tables_grow_further}
 use Rattle.replay_check.proofs.TypeNames.{bridge_types}

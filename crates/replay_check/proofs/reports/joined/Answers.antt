@@ -2,4 +2,4 @@ use Rattle.std.proofs.lemmas.Str.{IsUtf8-from_is_utf8}
 use Rattle.replay_check.proofs.reports.joined.Goals as goal
 
 pub unreachable-requires : goal.unreachable-requires
-unreachable-requires c = c.in_default.ensures.cases (IsUtf8-from_is_utf8 c.args.text.now c.requires)
+unreachable-requires c = c.in_default.ensures.cases.0 (IsUtf8-from_is_utf8 c.args.text.now c.requires)

@@ -1,4 +1,4 @@
-use Rattle.std.proofs.Common.{◌≡◌, refl, sym, ◌∙◌, subst}
+use Rattle.std.proofs.Common.{refl, sym, ◌∙◌, subst}
 use Rattle.hol_terms.specs.Rules.{trans_rule, comb_rule, abs_rule, assume_rule, eq_mp_rule, deduct_rule, inst_type_rule, inst_rule}
 use Rattle.hol_logs.specs.Step.{step_trans, step_comb, step_abs, step_mp, step_deduct, step_inst_type, step_inst, sequent_at, step_gives}
 use Rattle.flat_terms.specs.Plain.{term_of}

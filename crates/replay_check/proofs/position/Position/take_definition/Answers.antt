@@ -1,5 +1,4 @@
-use Rattle.std.proofs.Common.{refl, sym, ap, ◌∙◌, add-one}
-use Rattle.replay_check.specs.Definitions.{definition_of}
+use Rattle.std.proofs.Common.{refl, sym, ◌∙◌, add-one}
 use Rattle.replay_check.proofs.Later.{definition_stays}
 use Rattle.replay_check.proofs.Taking.{position_stays}
 use Rattle.replay_check.proofs.Defining.{gains_tables, gains_further, may_still, off_still, typed_still, report_still, accepted}

@@ -1,13 +1,14 @@
 use Rattle.std.proofs.Common.{subst}
 use Rattle.replay_check.specs.Steps.{IsAt}
-use Rattle.replay_check.proofs.NamedLines.{Names, sequent_held, counted, emptiness, named_with_hypotheses, named_another, name_taken}
+use Rattle.replay_check.proofs.Giving.{at_has}
+use Rattle.replay_check.proofs.NamedLines.{Names, counted, emptiness, named_with_hypotheses, named_another, name_taken}
 use Rattle.replay_check.proofs.position.Position.take_name.Goals as goal
 use Rattle.replay_check.proofs.position.Position.take_name.Goals.{then-not-is_empty-via-then-not-is_empty, then-not-is_empty-via-else-not-is_empty+then-not-same_term}
 
 pub same_term-requires-clause-a : goal.same_term-requires-clause-a
 same_term-requires-clause-a c =
-    (sequent_held c.args.self.now.tables c.args.self.now.sequents.items c.args.step c.sequent-theorem.result.now c.requires.position.sequents
-    (subst (λ qs. IsAt qs c.args.step c.sequent-theorem.result.now) c.deref.ensures.value c.sequent-theorem.ensures)).concl
+    (at_has c.args.self.now.tables c.args.self.now.sequents.items c.args.step c.sequent-theorem.result.now c.requires.position.sequents
+    (subst (λ qs. IsAt qs c.args.step c.sequent-theorem.result.now) c.deref.ensures.value c.sequent-theorem.ensures)).0.concl
 
 pub returns-then-not-is_empty : goal.returns-then-not-is_empty
 returns-then-not-is_empty c =

@@ -1,12 +1,13 @@
-use Rattle.std.proofs.Common.{◌≡◌, ◌⊎◌, ◌<◌, ◌^◌, length, refl, sym, ap, ◌∙◌, subst, arith, add-one}
+use Rattle.std.proofs.Common.{◌⊎◌, refl, sym, ◌∙◌, subst, arith, add-one}
 use Rattle.hol_terms.specs.Base.{base}
 use Rattle.hol_terms.specs.Proves.{IsPrefix}
 use Rattle.replay_check.specs.Definitions.{definitions_of, IsBooleanAnswer}
-use Rattle.replay_check.proofs.StepLines.{reads_back_at, ten_at, lacks_at, step_refused, step_taken, answer_at}
+use Rattle.replay_check.proofs.Taking.{position_reads_back}
+use Rattle.replay_check.proofs.StepLines.{ten_at, lacks_at, step_refused, step_taken, answer_at}
 use Rattle.replay_check.proofs.position.Position.take_step.Goals as goal
 
 pub give-requires-clause-reads_back : goal.give-requires-clause-reads_back
-give-requires-clause-reads_back c = reads_back_at c.args.self.now c.requires.position
+give-requires-clause-reads_back c = position_reads_back c.args.self.now c.requires.position
 
 pub give-requires-clause-stands : goal.give-requires-clause-stands
 give-requires-clause-stands c =

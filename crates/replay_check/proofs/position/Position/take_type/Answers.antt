@@ -1,5 +1,5 @@
-use Rattle.std.proofs.Common.{◌≡◌, sym, ap, ◌∙◌, subst}
-use Rattle.flat_terms.specs.Plain.{name_of, term_of}
+use Rattle.std.proofs.Common.{subst}
+use Rattle.flat_terms.specs.Plain.{name_of}
 use Rattle.flat_rules.specs.Sequents.{sequent_of}
 use Rattle.flat_signatures.specs.FlatNames.{plain_signature}
 use Rattle.replay_check.specs.Definitions.{IsPredicate}
