@@ -4,7 +4,7 @@ ghost use Rattle.std.specs.Prelude.{◌≡◌, ◌++◌, [], ◌∷◌, codes, s
 ghost use Rattle.std.specs.Fmt.{decimal};
 ghost use Rattle.log_replay.specs.Messages.{word_of, bad_log_text};
 
-use replay_check::Why;
+use replay_check::why::Why;
 use std::alloc::{AllocError, Global};
 use std::fmt::Write;
 

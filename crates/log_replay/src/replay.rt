@@ -12,7 +12,8 @@ ghost use Rattle.log_replay.specs.Replayed.{GainsReport, GainsFaultReport, Gains
 ghost use Rattle.log_replay.specs.Lines.{AppendsFront, IsAfter, IsFedLine, IsStopped, IsClosed};
 
 use hb_io::{Failed, Sink, write_all};
-use replay_check::{Checker, FeedError, FinishError, Why};
+use replay_check::checker::{Checker, FeedError, FinishError};
+use replay_check::why::Why;
 use std::alloc::{AllocError, Global};
 use thiserror::Error;
 

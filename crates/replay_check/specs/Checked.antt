@@ -1,8 +1,7 @@
 -- What a contract sees of the checker: the position behind the lines so far, and what it failed by.
-use Rattle.std.specs.Prelude.{◌≡◌, ◌⊎◌, ℕ, suc, List, [], ◌∷◌, Option, Some, None, String, slice_get, unwrap_or, refl}
+use Rattle.std.specs.Prelude.{◌≡◌, ℕ, suc, List, [], ◌∷◌, Option, Some, None, String, slice_get, unwrap_or, refl}
 use Rattle.std.specs.declared.alloc.Global.{Global}
-use Rattle.std.proofs.Common.{inl, inr}
-use Rattle.std.specs.Coded.{Coded, code_by, coded×, coded⊎, coded_ℕ, coded_option}
+use Rattle.std.specs.Coded.{Coded, code_by, coded×, coded_ℕ, coded_option}
 use Rattle.hol_terms.specs.Text.{Text}
 use Rattle.hol_logs.specs.Line.{LogLine}
 use Rattle.hol_logs.specs.Position.{LogPosition, position_code, after, report_of}
@@ -48,20 +47,20 @@ same_cause Count = refl
 same_cause Cut = refl
 same_cause Endless = refl
 
-abbrev error_parts : FeedError → (ℕ × ℕ) ⊎ ℕ
-error_parts (BadLine n w) = inl (n, number_of w)
-error_parts Memory = inr 0
+abbrev error_parts : FeedError → Option (ℕ × ℕ)
+error_parts (BadLine n w) = Some (n, number_of w)
+error_parts Memory = None
 
-abbrev error_by : (ℕ × ℕ) ⊎ ℕ → FeedError
-error_by (inl p) = BadLine p.0 (cause_at p.1)
-error_by (inr n) = Memory
+abbrev error_by : Option (ℕ × ℕ) → FeedError
+error_by (Some p) = BadLine p.0 (cause_at p.1)
+error_by None = Memory
 
 pub same_error : (e : FeedError) → error_by (error_parts e) ≡ e
 same_error (BadLine n w) = λ i. BadLine n (same_cause w i)
 same_error Memory = refl
 
 abbrev error_code : Coded FeedError
-error_code = code_by ((ℕ × ℕ) ⊎ ℕ) (coded⊎ (coded× coded_ℕ coded_ℕ) coded_ℕ) error_parts error_by same_error
+error_code = code_by (Option (ℕ × ℕ)) (coded_option (coded× coded_ℕ coded_ℕ)) error_parts error_by same_error
 
 abbrev pub checker_code : Coded CheckerState
 checker_code = code_by (LogPosition × Option FeedError) (coded× position_code (coded_option error_code)) (λ c. (c.position, c.failure)) (λ t. record { position = t.0; failure = t.1 }) (λ _. refl)

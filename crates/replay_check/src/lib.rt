@@ -4,5 +4,3 @@
 pub mod checker;
 pub mod why;
 
-pub use checker::{Checker, FeedError, FinishError};
-pub use why::Why;
