@@ -14,7 +14,7 @@ use Rattle.theory_answers.specs.Answered.{IsCheck, IsDecided, IsLog}
 use Rattle.theory_answers.specs.Theories.{GainsLogOf, GainsPartOf}
 use Rattle.hb_top.specs.Headline.{IfAnswered, Answers, LogsAnswers, Leaves, IfCut, AnswersInPart, IsLogPart, nothing, front, LogsInPart, GainsSound, IsGoodPart, no_bytes, some_bytes, GainsGoodPart, IsPrinting, IsWriting}
 use Rattle.hb_top.specs.Replaying.{ReportsInPart}
-use Rattle.log_replay.proofs.Closing.{nothing_written}
+use Rattle.log_replay.proofs.Closing.{nothing_reported}
 use Rattle.hb_top.specs.declared.top.Status.{Status}
 use Rattle.hb_top.specs.declared.top.Status.TheVariants.{Done, Refused, Usage, ReadFault, WriteFault, Memory, BadLog}
 use Rattle.theory_answers.proofs.Checking.{check_front}
@@ -106,7 +106,7 @@ pub unwritten_good : (old : Option Text) → GainsGoodPart old old
 unwritten_good old = λ kept k. ([], same_kept kept old k, no_bytes)
 
 pub unwritten_report : (left old : Option Text) → ReportsInPart left old old
-unwritten_report left old = λ b e kept k. ([], same_kept kept old k, (nothing_written b None).part)
+unwritten_report left old = λ b e kept k. ([], same_kept kept old k, nothing_reported b)
 
 pub ruleset unwritten_lemmas = (unwritten_part, unwritten_sound, unwritten_log, unwritten_good, unwritten_report)
 

@@ -134,12 +134,11 @@ closed_part given b old new (Err WriteFault) e l h = subst (λ c. GainsPart c ol
 closed_part given b old new (Err Memory) e l h = subst (λ c. GainsPart c old new) (whole given b e l) h
 
 -- nothing was written
+pub nothing_reported : (b : Text) → IsPartOfReport in_force b []
+nothing_reported b = record { texts = []; rest = log_lines b; position = start_position; said = []; more = []; lines = refl; read = no_line; begins = refl }
+
 pub nothing_written : (b : Text) (o : Option Text) → GainsPart b o o
-nothing_written b o = record {
-  out = [];
-  part = record { texts = []; rest = log_lines b; position = start_position; said = []; more = []; lines = refl; read = no_line; begins = refl };
-  gained = sym (append_told-nil o);
-}
+nothing_written b o = record { out = []; part = nothing_reported b; gained = sym (append_told-nil o) }
 
 -- ---- a report up to the first bad line is a part of the log's
 
