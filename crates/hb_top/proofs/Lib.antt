@@ -1,3 +1,4 @@
 pub mod Shelves
 pub mod Saying
 pub mod Running
+pub mod Replayed

@@ -13,8 +13,10 @@ use Rattle.theory_answers.specs.Answer.{limit, in_force}
 use Rattle.theory_answers.specs.Answered.{IsCheck, IsDecided, IsLog}
 use Rattle.theory_answers.specs.Theories.{GainsLogOf, GainsPartOf}
 use Rattle.hb_top.specs.Headline.{IfAnswered, Answers, LogsAnswers, Leaves, IfCut, AnswersInPart, IsLogPart, nothing, front, LogsInPart, GainsSound, IsGoodPart, no_bytes, some_bytes, GainsGoodPart, IsPrinting, IsWriting}
+use Rattle.hb_top.specs.Replaying.{ReportsInPart}
+use Rattle.log_replay.proofs.Closing.{nothing_reported}
 use Rattle.hb_top.specs.declared.top.Status.{Status}
-use Rattle.hb_top.specs.declared.top.Status.TheVariants.{Done, Refused, Usage, ReadFault, WriteFault, Memory}
+use Rattle.hb_top.specs.declared.top.Status.TheVariants.{Done, Refused, Usage, ReadFault, WriteFault, Memory, BadLog}
 use Rattle.theory_answers.proofs.Checking.{check_front}
 use Rattle.theory_answers.proofs.Parts.{part_of, no_part}
 
@@ -26,6 +28,7 @@ answered_maps Usage P Q f h = tt
 answered_maps ReadFault P Q f h = tt
 answered_maps WriteFault P Q f h = tt
 answered_maps Memory P Q f h = tt
+answered_maps BadLog P Q f h = tt
 
 -- what was read of a source that tells its bytes
 pub record Front (n : ℕ) (b input : Text) (new : Option Text) : Type 0 where
@@ -35,7 +38,7 @@ pub record Front (n : ℕ) (b input : Text) (new : Option Text) : Type 0 where
 no_bytes_told : (input b : Text) → Some b ≡ prepend_told input None → ⊥
 no_bytes_told input b e = let f : Some b ≡ None = e ∙ prepend_told-None input in cc
 
-same_some : {A : Type 0} (x y : A) → Some x ≡ Some y → x ≡ y
+pub same_some : {A : Type 0} (x y : A) → Some x ≡ Some y → x ≡ y
 same_some x y e = cc
 
 split_at : (n : ℕ) (b input rest : Text) → b ≡ input ++ rest → length input ≤ n + 1 → (length input ≤ n → rest ≡ []) → Front n b input (Some rest)
@@ -87,7 +90,7 @@ run_leaves s old new {left} {new_left} {input} {out} {refused} ran =
 
 -- ---- what stands where the output was cut short
 
-same_kept : (kept : Text) (old : Option Text) → old ≡ Some kept → old ≡ Some (kept ++ [])
+pub same_kept : (kept : Text) (old : Option Text) → old ≡ Some kept → old ≡ Some (kept ++ [])
 same_kept kept old k = k ∙ ap (λ (t : Text). Some t) (sym (append-nil kept))
 
 pub unwritten_part : (left old : Option Text) → AnswersInPart left old old
@@ -102,7 +105,10 @@ unwritten_log left old = λ b e kept k. ([], same_kept kept old k, nothing)
 pub unwritten_good : (old : Option Text) → GainsGoodPart old old
 unwritten_good old = λ kept k. ([], same_kept kept old k, no_bytes)
 
-pub ruleset unwritten_lemmas = (unwritten_part, unwritten_sound, unwritten_log, unwritten_good)
+pub unwritten_report : (left old : Option Text) → ReportsInPart left old old
+unwritten_report left old = λ b e kept k. ([], same_kept kept old k, nothing_reported b)
+
+pub ruleset unwritten_lemmas = (unwritten_part, unwritten_sound, unwritten_log, unwritten_good, unwritten_report)
 
 pub run_cut : (s : Status) (old new : Option Text) {left new_left : Option Text} {input out : Text} {refused : Bool} → Ran left new_left input out refused
     → IsPrinting s → (s ≡ WriteFault → AppendsPart old new out) → IfCut s (AnswersInPart left old new)
@@ -114,8 +120,9 @@ run_cut Done old new ran p w = tt
 run_cut Refused old new ran p w = tt
 run_cut Usage old new ran p w = tt
 run_cut ReadFault old new ran p w = tt
+run_cut BadLog old new ran p w = absurd p
 
-gains : (old new : Option Text) (out : Text) → Appends old new out → IsSound (base in_force) out → GainsSound old new
+pub gains : (old new : Option Text) (out : Text) → Appends old new out → IsSound (base in_force) out → GainsSound old new
 gains old new out a s = λ kept k. (out, a ∙ ap (λ o. append_told o out) k ∙ append_told-Some kept out, s)
 
 pub run_sound : (s : Status) (old new : Option Text) {input out : Text} {refused : Bool} → IsCheck input out refused
@@ -126,6 +133,7 @@ run_sound WriteFault old new {input} {out} {refused} c p a w = let x = w refl in
 run_sound Memory old new c p a w = absurd p
 run_sound Usage old new c p a w = absurd p
 run_sound ReadFault old new c p a w = absurd p
+run_sound BadLog old new c p a w = absurd p
 
 -- ---- logs
 
@@ -180,6 +188,7 @@ log_parts WriteFault old new stops read w a p = part_log old new read p
 log_parts Memory old new stops read w a p = part_log old new read p
 log_parts Usage old new stops read w a p = absurd w
 log_parts ReadFault old new stops read w a p = absurd w
+log_parts BadLog old new stops read w a p = absurd w
 
 whole_good : {input : Text} {stops : Bool} (old new : Option Text) → GainsLogOf input stops old new → GainsGoodPart old new
 whole_good old new g = λ kept k.
@@ -198,3 +207,4 @@ log_good WriteFault old new input stops w a p = part_good old new p
 log_good Memory old new input stops w a p = part_good old new p
 log_good Usage old new input stops w a p = absurd w
 log_good ReadFault old new input stops w a p = absurd w
+log_good BadLog old new input stops w a p = absurd w

@@ -8,7 +8,7 @@ use Rattle.hol_logs.specs.Log.{IsGoodLog}
 use Rattle.theory_answers.specs.Answer.{limit, in_force}
 use Rattle.theory_answers.specs.Answered.{IsCheck, IsPart, IsLog}
 use Rattle.hb_top.specs.declared.top.Status.{Status}
-use Rattle.hb_top.specs.declared.top.Status.TheVariants.{Done, Refused, Usage, ReadFault, WriteFault, Memory}
+use Rattle.hb_top.specs.declared.top.Status.TheVariants.{Done, Refused, Usage, ReadFault, WriteFault, Memory, BadLog}
 
 -- the exit code of a status
 abbrev pub code_of : Status → ℕ
@@ -18,8 +18,9 @@ code_of Usage = 2
 code_of ReadFault = 3
 code_of WriteFault = 4
 code_of Memory = 5
+code_of BadLog = 7
 
--- what a status says on the standard error
+-- what a status says on the standard error; what BadLog says depends on the log
 abbrev pub message_of : Status → Text
 message_of Done = []
 message_of Refused = []
@@ -27,6 +28,7 @@ message_of Usage = codes "usage: hbnf check|log|replay" ++ 10 ∷ []
 message_of ReadFault = codes "read fault" ++ 10 ∷ []
 message_of WriteFault = codes "write fault" ++ 10 ∷ []
 message_of Memory = codes "out of memory" ++ 10 ∷ []
+message_of BadLog = []
 
 -- a fact for the statuses Done and Refused, which say whether the answer has a refusal
 abbrev pub IfAnswered : Status → (Bool → Type 0) → Type 0
@@ -78,15 +80,20 @@ GainsGoodPart old new = (kept : Text) → old ≡ Some kept → (out : Text) × 
 abbrev pub AppendsFront : Option Text → Option Text → Text → Type 0
 AppendsFront old new bytes = (n : ℕ) × Appends old new (take n bytes)
 
+-- the sink gained the bytes where its faults did not rise, and else a part of them
+abbrev pub Says : Type 0 → Option Text → Option Text → Text → Type 0
+Says rose old new bytes = ((rose → ⊥) → Appends old new bytes) × AppendsFront old new bytes
+
 -- the source has left what follows the bytes that an answer depends on
 abbrev pub Leaves : Option Text → Option Text → Type 0
 Leaves old new = (b : Text) → old ≡ Some b → new ≡ Some (drop (limit + 1) b)
 
--- the command was done, was refused, or memory was wanting
+-- the command was done, was refused, memory was wanting, or the log isn't good
 abbrev pub IsCompletion : Status → Type 0
 IsCompletion Done = Unit {0}
 IsCompletion Refused = Unit {0}
 IsCompletion Memory = Unit {0}
+IsCompletion BadLog = Unit {0}
 IsCompletion s = ⊥
 
 -- what words that are no mode's may come to

@@ -1,2 +1,4 @@
 pub mod Outcome
 pub mod Headline
+pub mod Replaying
+pub mod Endings

@@ -1,15 +1,13 @@
-//! Reading a source up to the limit.
+//! Reading a source up to a bound.
 
-ghost use Rattle.std.specs.Prelude.{◌≡◌, ◌+◌, ◌≤◌, length, IfOk};
+ghost use Rattle.std.specs.Prelude.{◌≡◌, ◌<◌, ◌≤◌, length, IfOk};
 ghost use Rattle.std.specs.Io.KnownBytes.{IsAtEnd};
 ghost use Rattle.hb_io.specs.Faults.{Rose};
 ghost use Rattle.hb_io.specs.Told.{Takes};
-ghost use Rattle.theory_answers.specs.Answer.{limit};
 ghost use Rattle.hb_top.specs.Outcome.{IfFault};
 
 use hb_io::Source;
 use std::alloc::Global;
-use theory_answers::verdict::LIMIT;
 use thiserror::Error;
 
 /// Why an input wasn't read.
@@ -21,20 +19,24 @@ pub(crate) enum InputError {
     Memory,
 }
 
-/// The bytes of the source up to its end, or one more than the limit where it has as many. `Fault` comes only where the
-/// source's count of faults rose, `Memory` for want of memory.
+/// The bytes of the source up to its end, or `most` where it has as many. `Fault` comes only where the source's count of faults rose,
+/// `Memory` for want of memory.
 #[tactic(auto, using(hb_io::proofs::ToldLemmas::told))]
-pub(crate) fn read_input<S: Source>(alloc: Global, src: &mut S) -> Result<Vec<u8>, InputError>
+pub(crate) fn read_input<S: Source>(
+    alloc: Global,
+    src: &mut S,
+    most: usize,
+) -> Result<Vec<u8>, InputError>
     ensures taken { IfOk result (λ v. Takes (S.left src.old) (S.left src.new) v.items) }
-    ensures within { IfOk result (λ v. length v.items ≤ limit + 1) }
-    ensures whole { IfOk result (λ v. length v.items ≤ limit → IsAtEnd (S.left src.new)) }
+    ensures within { IfOk result (λ v. length v.items ≤ most) }
+    ensures whole { IfOk result (λ v. length v.items < most → IsAtEnd (S.left src.new)) }
     ensures fault { IfFault result (Rose (S.faults src.old) (S.faults src.new)) }
     ensures counted { S.faults src.old ≤ S.faults src.new }
 {
     let mut input = Vec::new(alloc);
     let mut buf = [0u8; 4096];
-    while input.len() <= LIMIT {
-        let room = buf.len().min(LIMIT + 1 - input.len());
+    while input.len() < most {
+        let room = buf.len().min(most - input.len());
         let Ok(n) = src.read(&mut buf[..room]) else {
             return Err(InputError::Fault);
         };

@@ -6,4 +6,6 @@ mod logs;
 #[cfg(test)]
 mod printing;
 #[cfg(test)]
+mod replays;
+#[cfg(test)]
 mod runs;

@@ -390,7 +390,7 @@ static USAGE: [&[&str]; 15] = [
     &["hbnf"],
     &["hbnf", "what"],
     &["hbnf", "bench"],
-    &["hbnf", "replay"],
+    &["hbnf", "Replay"],
     &["hbnf", "check", "check"],
     &["hbnf", "log", "check"],
     &["hbnf", "--log"],

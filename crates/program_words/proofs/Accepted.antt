@@ -25,7 +25,7 @@ use Rattle.clap.specs.declared.builder.value_parser.ValueParser.TheVariants.{Nam
 use Rattle.clap.specs.declared.error.Error.{Error}
 use Rattle.clap.specs.declared.error.kind.ErrorKind.TheVariants as kind
 use Rattle.clap.proofs.OnLiterals.{clap_on_literals}
-use Rattle.program_words.specs.declared.Mode.TheVariants.{Check, Log}
+use Rattle.program_words.specs.declared.Mode.TheVariants.{Check, Log, Replay}
 use Rattle.program_words.specs.Words.{Word, begins_with_minus, modes, with_mode, mode_named, only_mode, mode_of, HasMode}
 
 -- the command: no help flag, and one positional with a test of its values
@@ -45,7 +45,7 @@ is_simple p = refl
 
 -- a word that is a mode's name
 abbrev pub IsMode : Word → Type 0
-IsMode m = (m ≡ codes "check") ⊎ (m ≡ codes "log")
+IsMode m = (m ≡ codes "check") ⊎ ((m ≡ codes "log") ⊎ (m ≡ codes "replay"))
 
 check_alone : (p : ValueParser) (program : Word) → accepts false p (codes "check") ≡ true → takes (app p) (program ∷ codes "check" ∷ []) ≡ true
 unfolding clap_on_literals walked
@@ -71,23 +71,39 @@ log_before : (p : ValueParser) (program : Word) → accepts false p (codes "log"
 unfolding clap_on_literals walked
 log_before p program a = rw a refl
 
+replay_alone : (p : ValueParser) (program : Word) → accepts false p (codes "replay") ≡ true → takes (app p) (program ∷ codes "replay" ∷ []) ≡ true
+unfolding clap_on_literals walked
+replay_alone p program a = rw a refl
+
+replay_behind : (p : ValueParser) (program : Word) → accepts false p (codes "replay") ≡ true → takes (app p) (program ∷ codes "--" ∷ codes "replay" ∷ []) ≡ true
+unfolding clap_on_literals walked
+replay_behind p program a = rw a refl
+
+replay_before : (p : ValueParser) (program : Word) → accepts false p (codes "replay") ≡ true → takes (app p) (program ∷ codes "replay" ∷ codes "--" ∷ []) ≡ true
+unfolding clap_on_literals walked
+replay_before p program a = rw a refl
+
 -- the parser takes the names of the modes, and nothing else
 pub record IsModeParser (p : ValueParser) : Type 0 where
   pub takes_check : accepts false p (codes "check") ≡ true
   pub takes_log : accepts false p (codes "log") ≡ true
+  pub takes_replay : accepts false p (codes "replay") ≡ true
   pub takes_no_other : (t : Word) → accepts false p t ≡ true → IsMode t
 
 alone_taken : (p : ValueParser) (program m : Word) → IsModeParser p → IsMode m → takes (app p) (program ∷ m ∷ []) ≡ true
 alone_taken p program m k (inl e) = subst (λ (x : Word). takes (app p) (program ∷ x ∷ []) ≡ true) (sym e) (check_alone p program k.takes_check)
-alone_taken p program m k (inr e) = subst (λ (x : Word). takes (app p) (program ∷ x ∷ []) ≡ true) (sym e) (log_alone p program k.takes_log)
+alone_taken p program m k (inr (inl e)) = subst (λ (x : Word). takes (app p) (program ∷ x ∷ []) ≡ true) (sym e) (log_alone p program k.takes_log)
+alone_taken p program m k (inr (inr e)) = subst (λ (x : Word). takes (app p) (program ∷ x ∷ []) ≡ true) (sym e) (replay_alone p program k.takes_replay)
 
 behind_taken : (p : ValueParser) (program m : Word) → IsModeParser p → IsMode m → takes (app p) (program ∷ codes "--" ∷ m ∷ []) ≡ true
 behind_taken p program m k (inl e) = subst (λ (x : Word). takes (app p) (program ∷ codes "--" ∷ x ∷ []) ≡ true) (sym e) (check_behind p program k.takes_check)
-behind_taken p program m k (inr e) = subst (λ (x : Word). takes (app p) (program ∷ codes "--" ∷ x ∷ []) ≡ true) (sym e) (log_behind p program k.takes_log)
+behind_taken p program m k (inr (inl e)) = subst (λ (x : Word). takes (app p) (program ∷ codes "--" ∷ x ∷ []) ≡ true) (sym e) (log_behind p program k.takes_log)
+behind_taken p program m k (inr (inr e)) = subst (λ (x : Word). takes (app p) (program ∷ codes "--" ∷ x ∷ []) ≡ true) (sym e) (replay_behind p program k.takes_replay)
 
 before_taken : (p : ValueParser) (program m : Word) → IsModeParser p → IsMode m → takes (app p) (program ∷ m ∷ codes "--" ∷ []) ≡ true
 before_taken p program m k (inl e) = subst (λ (x : Word). takes (app p) (program ∷ x ∷ codes "--" ∷ []) ≡ true) (sym e) (check_before p program k.takes_check)
-before_taken p program m k (inr e) = subst (λ (x : Word). takes (app p) (program ∷ x ∷ codes "--" ∷ []) ≡ true) (sym e) (log_before p program k.takes_log)
+before_taken p program m k (inr (inl e)) = subst (λ (x : Word). takes (app p) (program ∷ x ∷ codes "--" ∷ []) ≡ true) (sym e) (log_before p program k.takes_log)
+before_taken p program m k (inr (inr e)) = subst (λ (x : Word). takes (app p) (program ∷ x ∷ codes "--" ∷ []) ≡ true) (sym e) (replay_before p program k.takes_replay)
 
 -- ---- words that are refused
 
@@ -252,11 +268,13 @@ came_trailing p (m ∷ ws) e =
 
 mode_alone : (m : Word) → IsMode m → modes (m ∷ []) ≡ Some (m ∷ [])
 mode_alone m (inl e) = subst (λ (x : Word). modes (x ∷ []) ≡ Some (x ∷ [])) (sym e) refl
-mode_alone m (inr e) = subst (λ (x : Word). modes (x ∷ []) ≡ Some (x ∷ [])) (sym e) refl
+mode_alone m (inr (inl e)) = subst (λ (x : Word). modes (x ∷ []) ≡ Some (x ∷ [])) (sym e) refl
+mode_alone m (inr (inr e)) = subst (λ (x : Word). modes (x ∷ []) ≡ Some (x ∷ [])) (sym e) refl
 
 mode_before : (m : Word) → IsMode m → modes (m ∷ minus_twice ∷ []) ≡ Some (m ∷ [])
 mode_before m (inl e) = subst (λ (x : Word). modes (x ∷ minus_twice ∷ []) ≡ Some (x ∷ [])) (sym e) refl
-mode_before m (inr e) = subst (λ (x : Word). modes (x ∷ minus_twice ∷ []) ≡ Some (x ∷ [])) (sym e) refl
+mode_before m (inr (inl e)) = subst (λ (x : Word). modes (x ∷ minus_twice ∷ []) ≡ Some (x ∷ [])) (sym e) refl
+mode_before m (inr (inr e)) = subst (λ (x : Word). modes (x ∷ minus_twice ∷ []) ≡ Some (x ∷ [])) (sym e) refl
 
 -- a mode, and what stands behind it
 came_mode : (p : ValueParser) (m : Word) (ws : List Word) → walked (top p).rules [] (at_first false) m ≡ at_second false m → fault_from p (at_second false m) ws ≡ [] → Came p (m ∷ ws)
@@ -355,12 +373,13 @@ no_modes (w ∷ ws) e = at (bytes_eq w minus_twice) (begins_with_minus w) refl (
     at false false q (Some vs) f = (let g : w ∷ vs ≡ [] = same_some (w ∷ vs) [] f in absurd cc)
 
 named_is : (m : Word) → mode_named m ≢ None → IsMode m
-named_is m n = at (bytes_eq m (codes "check")) refl (bytes_eq m (codes "log")) refl n
+named_is m n = at (bytes_eq m (codes "check")) refl (bytes_eq m (codes "log")) refl (bytes_eq m (codes "replay")) refl n
   where
-    at : (b : Bool) → bytes_eq m (codes "check") ≡ b → (d : Bool) → bytes_eq m (codes "log") ≡ d → cond b (Some Check) (cond d (Some Log) None) ≢ None → IsMode m
-    at true q d r k = inl ((bytes_eq-Decides m (codes "check")).0 q)
-    at false q true r k = inr ((bytes_eq-Decides m (codes "log")).0 r)
-    at false q false r k = absurd (k refl)
+    at : (b : Bool) → bytes_eq m (codes "check") ≡ b → (d : Bool) → bytes_eq m (codes "log") ≡ d → (f : Bool) → bytes_eq m (codes "replay") ≡ f → cond b (Some Check) (cond d (Some Log) (cond f (Some Replay) None)) ≢ None → IsMode m
+    at true q d r f t k = inl ((bytes_eq-Decides m (codes "check")).0 q)
+    at false q true r f t k = inr (inl ((bytes_eq-Decides m (codes "log")).0 r))
+    at false q false r true t k = inr (inr ((bytes_eq-Decides m (codes "replay")).0 t))
+    at false q false r false t k = absurd (k refl)
 
 one_is : (vs : List Word) → only_mode (Some vs) ≢ None → (m : Word) × (vs ≡ m ∷ []) × IsMode m
 one_is [] n = absurd (n refl)
@@ -408,20 +427,23 @@ command_is c0 c1 c2 a q e0 e1 e2 r =
     app_with_no_help b = record b { top = record b.top { disable_help_flag = true } }
 
 -- the names that are compared with a value
-only_modes : (n : List Word) (t : Word) → n ≡ codes "check" ∷ codes "log" ∷ [] → list_any (λ m. same_text false m t) n ≡ true → IsMode t
-only_modes n t e h = at (bytes_eq (codes "check") t) refl (bytes_eq (codes "log") t) refl (sym (ap (λ (ms : List Word). list_any (λ m. same_text false m t) ms) e) ∙ h)
+only_modes : (n : List Word) (t : Word) → n ≡ codes "check" ∷ codes "log" ∷ codes "replay" ∷ [] → list_any (λ m. same_text false m t) n ≡ true → IsMode t
+only_modes n t e h =
+    at (bytes_eq (codes "check") t) refl (bytes_eq (codes "log") t) refl (bytes_eq (codes "replay") t) refl (sym (ap (λ (ms : List Word). list_any (λ m. same_text false m t) ms) e) ∙ h)
   where
-    at : (b : Bool) → bytes_eq (codes "check") t ≡ b → (d : Bool) → bytes_eq (codes "log") t ≡ d → (b || (d || false)) ≡ true → IsMode t
-    at true q d r k = inl (sym ((bytes_eq-Decides (codes "check") t).0 q))
-    at false q true r k = inr (sym ((bytes_eq-Decides (codes "log") t).0 r))
-    at false q false r k = absurd (true≢false (sym k))
+    at : (b : Bool) → bytes_eq (codes "check") t ≡ b → (d : Bool) → bytes_eq (codes "log") t ≡ d → (f : Bool) → bytes_eq (codes "replay") t ≡ f → (b || (d || (f || false))) ≡ true → IsMode t
+    at true q d r f u k = inl (sym ((bytes_eq-Decides (codes "check") t).0 q))
+    at false q true r f u k = inr (inl (sym ((bytes_eq-Decides (codes "log") t).0 r)))
+    at false q false r true u k = inr (inr (sym ((bytes_eq-Decides (codes "replay") t).0 u)))
+    at false q false r false u k = absurd (true≢false (sym k))
 
 -- ---- what the parse says
 
-pub names_parser : (n : Bor (List (Bor Word))) (p : ValueParser) → p ≡ Names n → map (λ s. s.now) n.now ≡ codes "check" ∷ codes "log" ∷ [] → IsModeParser p
+pub names_parser : (n : Bor (List (Bor Word))) (p : ValueParser) → p ≡ Names n → map (λ s. s.now) n.now ≡ codes "check" ∷ codes "log" ∷ codes "replay" ∷ [] → IsModeParser p
 names_parser n p e k = subst IsModeParser (sym e) (record {
   takes_check = any_is n.now (codes "check") ∙ ap (list_any (λ m. same_text false m (codes "check"))) k;
   takes_log = any_is n.now (codes "log") ∙ ap (list_any (λ m. same_text false m (codes "log"))) k;
+  takes_replay = any_is n.now (codes "replay") ∙ ap (list_any (λ m. same_text false m (codes "replay"))) k;
   takes_no_other = λ t h. only_modes (map (λ s. s.now) n.now) t k (sym (any_is n.now t) ∙ h);
 })
   where

@@ -3,7 +3,7 @@ use Rattle.std.specs.Prelude.{◌≡◌, ℕ, Bool, false, ◌==◌, List, [], �
 use Rattle.clap.specs.Matches.{found_of, first_value}
 use Rattle.clap.specs.declared.parser.matches.ArgMatches.{ArgMatches}
 use Rattle.program_words.specs.declared.Mode.{Mode}
-use Rattle.program_words.specs.declared.Mode.TheVariants.{Check, Log}
+use Rattle.program_words.specs.declared.Mode.TheVariants.{Check, Log, Replay}
 
 abbrev pub Word : Type 0
 Word = List ℕ
@@ -23,7 +23,7 @@ modes [] = Some []
 modes (w ∷ ws) = if bytes_eq w (codes "--") then Some ws else (if begins_with_minus w then None else with_mode w (modes ws))
 
 abbrev pub mode_named : Word → Option Mode
-mode_named w = if bytes_eq w (codes "check") then Some Check else (if bytes_eq w (codes "log") then Some Log else None)
+mode_named w = if bytes_eq w (codes "check") then Some Check else (if bytes_eq w (codes "log") then Some Log else (if bytes_eq w (codes "replay") then Some Replay else None))
 
 -- there is exactly one mode
 abbrev pub only_mode : Option (List Word) → Option Mode

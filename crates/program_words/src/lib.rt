@@ -10,15 +10,17 @@ use clap::error::ErrorKind;
 use clap::{Arg, ArgAction, ArgMatches, Command, Error};
 use std::alloc::{AllocError, Global};
 
-/// What the program does: it checks a theory and prints its theorems; or it writes the theory's proof log.
+/// What the program does: it checks a theory and prints its theorems; it writes the theory's proof log; or it checks a
+/// proof log and prints its report.
 #[derive(Clone, Copy, Debug, PartialEq, Eq, Drop)]
 pub enum Mode {
     Check,
     Log,
+    Replay,
 }
 
 /// The modes of the program.
-static MODES: [&str; 2] = ["check", "log"];
+static MODES: [&str; 3] = ["check", "log", "replay"];
 
 /// Reads the words as one simple command, with the mode as its only argument.
 fn parse<'a>(alloc: Global, words: &'a [String]) -> Result<ArgMatches<'a>, Error>
@@ -43,6 +45,8 @@ fn mode_named(name: &str) -> Option<Mode>
         Some(Mode::Check)
     } else if name == "log" {
         Some(Mode::Log)
+    } else if name == "replay" {
+        Some(Mode::Replay)
     } else {
         None
     }

@@ -6,7 +6,7 @@ use Rattle.program_words.proofs.parse.Goals as goal
 pub returns-clause-taken : goal.returns-clause-taken
 returns-clause-taken c =
     let q = c.value_parser-mode.ensures.given in
-    let names : map (λ s. s.now) c.as_slice.result.now ≡ codes "check" ∷ codes "log" ∷ [] = search rules in
+    let names : map (λ s. s.now) c.as_slice.result.now ≡ codes "check" ∷ codes "log" ∷ codes "replay" ∷ [] = search rules in
     let parser : IsModeParser q.0 = names_parser c.as_slice.result q.0 q.2 names in
     let local = local_is c.new.result c.required.result c.action.result c.value_parser-mode.result c.new.ensures.optional.1 c.required.ensures c.action.ensures c.value_parser-mode.ensures.others in
     let mode = mode_is c.new.result c.required.result c.action.result c.value_parser-mode.result q.0 c.new.ensures.rule c.required.ensures c.action.ensures c.value_parser-mode.ensures.others q.1 in
@@ -16,7 +16,7 @@ returns-clause-taken c =
 pub returns-clause-refused : goal.returns-clause-refused
 returns-clause-refused c =
     let q = c.value_parser-mode.ensures.given in
-    let names : map (λ s. s.now) c.as_slice.result.now ≡ codes "check" ∷ codes "log" ∷ [] = search rules in
+    let names : map (λ s. s.now) c.as_slice.result.now ≡ codes "check" ∷ codes "log" ∷ codes "replay" ∷ [] = search rules in
     let parser : IsModeParser q.0 = names_parser c.as_slice.result q.0 q.2 names in
     let local = local_is c.new.result c.required.result c.action.result c.value_parser-mode.result c.new.ensures.optional.1 c.required.ensures c.action.ensures c.value_parser-mode.ensures.others in
     let mode = mode_is c.new.result c.required.result c.action.result c.value_parser-mode.result q.0 c.new.ensures.rule c.required.ensures c.action.ensures c.value_parser-mode.ensures.others q.1 in

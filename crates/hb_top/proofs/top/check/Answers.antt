@@ -1,4 +1,4 @@
-use Rattle.std.proofs.Common.{subst, string_bytes}
+use Rattle.std.proofs.Common.{subst, string_bytes, arith}
 use Rattle.hol_terms.specs.Text.{Text}
 use Rattle.theory_answers.specs.Answered.{IsCheck}
 use Rattle.hb_top.proofs.Running.{run_checks, run_decides, run_leaves, run_cut, run_sound}
@@ -11,7 +11,7 @@ returns-clause-check g c =
     run_checks c.print.result (g.O.Sink.kept c.args.out.now) (g.O.Sink.kept c.print.new.out) (record {
       taken = e.taken;
       within = e.within;
-      whole = e.whole;
+      whole = λ h. e.whole (omega arith);
       output = subst (λ (b : Text). IsCheck b out c.in-Ok-checked.output.refused) c.deref.ensures.value c.in-Ok-checked.ensures;
     }) c.print.ensures.written
 
@@ -22,7 +22,7 @@ returns-clause-decided g c =
     run_decides c.print.result (g.O.Sink.kept c.args.out.now) (g.O.Sink.kept c.print.new.out) (record {
       taken = e.taken;
       within = e.within;
-      whole = e.whole;
+      whole = λ h. e.whole (omega arith);
       output = subst (λ (b : Text). IsCheck b out c.in-Ok-checked.output.refused) c.deref.ensures.value c.in-Ok-checked.ensures;
     }) c.print.ensures.written
 
@@ -33,7 +33,7 @@ returns-clause-left g c =
     run_leaves c.print.result (g.O.Sink.kept c.args.out.now) (g.O.Sink.kept c.print.new.out) (record {
       taken = e.taken;
       within = e.within;
-      whole = e.whole;
+      whole = λ h. e.whole (omega arith);
       output = subst (λ (b : Text). IsCheck b out c.in-Ok-checked.output.refused) c.deref.ensures.value c.in-Ok-checked.ensures;
     }) c.print.ensures.written
 
@@ -44,7 +44,7 @@ returns-clause-cut g c =
     run_cut c.print.result (g.O.Sink.kept c.args.out.now) (g.O.Sink.kept c.print.new.out) (record {
       taken = e.taken;
       within = e.within;
-      whole = e.whole;
+      whole = λ h. e.whole (omega arith);
       output = subst (λ (b : Text). IsCheck b out c.in-Ok-checked.output.refused) c.deref.ensures.value c.in-Ok-checked.ensures;
     }) c.print.ensures.status c.print.ensures.cut
 

@@ -1,4 +1,4 @@
-use Rattle.std.proofs.Common.{subst}
+use Rattle.std.proofs.Common.{subst, arith}
 use Rattle.hol_terms.specs.Text.{Text}
 use Rattle.theory_answers.specs.Theories.{is_stop, IsTheory}
 use Rattle.hb_top.proofs.Running.{run_logs, log_decides, log_leaves, log_parts, log_good, unwritten_log, unwritten_good}
@@ -9,28 +9,28 @@ returns-clause-log g c =
     let e = c.in-Ok.ensures in
     let t = c.in-Ok-logged.theory in
     let theory : IsTheory c.in-Ok.input.items t = subst (λ (b : Text). IsTheory b t) c.deref.ensures.value c.in-Ok-logged.ensures in
-    run_logs c.write.result (g.O.Sink.kept c.args.out.now) (g.O.Sink.kept c.write.new.out) (is_stop t.end) (record { taken = e.taken; within = e.within; whole = e.whole }) (c.write.ensures.written c.in-Ok.input.items theory)
+    run_logs c.write.result (g.O.Sink.kept c.args.out.now) (g.O.Sink.kept c.write.new.out) (is_stop t.end) (record { taken = e.taken; within = e.within; whole = λ h. e.whole (omega arith) }) (c.write.ensures.written c.in-Ok.input.items theory)
 
 pub returns-clause-decided : goal.returns-clause-decided
 returns-clause-decided g c =
     let e = c.in-Ok.ensures in
     let t = c.in-Ok-logged.theory in
     let theory : IsTheory c.in-Ok.input.items t = subst (λ (b : Text). IsTheory b t) c.deref.ensures.value c.in-Ok-logged.ensures in
-    log_decides c.write.result (g.O.Sink.kept c.args.out.now) (g.O.Sink.kept c.write.new.out) (is_stop t.end) (record { taken = e.taken; within = e.within; whole = e.whole }) (c.write.ensures.written c.in-Ok.input.items theory)
+    log_decides c.write.result (g.O.Sink.kept c.args.out.now) (g.O.Sink.kept c.write.new.out) (is_stop t.end) (record { taken = e.taken; within = e.within; whole = λ h. e.whole (omega arith) }) (c.write.ensures.written c.in-Ok.input.items theory)
 
 pub returns-clause-left : goal.returns-clause-left
 returns-clause-left g c =
     let e = c.in-Ok.ensures in
     let t = c.in-Ok-logged.theory in
     let theory : IsTheory c.in-Ok.input.items t = subst (λ (b : Text). IsTheory b t) c.deref.ensures.value c.in-Ok-logged.ensures in
-    log_leaves c.write.result (g.O.Sink.kept c.args.out.now) (g.O.Sink.kept c.write.new.out) (is_stop t.end) (record { taken = e.taken; within = e.within; whole = e.whole }) (c.write.ensures.written c.in-Ok.input.items theory)
+    log_leaves c.write.result (g.O.Sink.kept c.args.out.now) (g.O.Sink.kept c.write.new.out) (is_stop t.end) (record { taken = e.taken; within = e.within; whole = λ h. e.whole (omega arith) }) (c.write.ensures.written c.in-Ok.input.items theory)
 
 pub returns-clause-log_cut : goal.returns-clause-log_cut
 returns-clause-log_cut g c =
     let e = c.in-Ok.ensures in
     let t = c.in-Ok-logged.theory in
     let theory : IsTheory c.in-Ok.input.items t = subst (λ (b : Text). IsTheory b t) c.deref.ensures.value c.in-Ok-logged.ensures in
-    log_parts c.write.result (g.O.Sink.kept c.args.out.now) (g.O.Sink.kept c.write.new.out) (is_stop t.end) (record { taken = e.taken; within = e.within; whole = e.whole }) c.write.ensures.status (c.write.ensures.written c.in-Ok.input.items theory) (c.write.ensures.cut c.in-Ok.input.items theory)
+    log_parts c.write.result (g.O.Sink.kept c.args.out.now) (g.O.Sink.kept c.write.new.out) (is_stop t.end) (record { taken = e.taken; within = e.within; whole = λ h. e.whole (omega arith) }) c.write.ensures.status (c.write.ensures.written c.in-Ok.input.items theory) (c.write.ensures.cut c.in-Ok.input.items theory)
 
 pub returns-clause-log_sound : goal.returns-clause-log_sound
 returns-clause-log_sound g c =

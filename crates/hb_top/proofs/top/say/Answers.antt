@@ -1,6 +1,9 @@
-use Rattle.std.proofs.Common.{◌∙◌}
-use Rattle.hb_top.proofs.Saying.{whole_front}
+use Rattle.std.proofs.Common.{◌∙◌, ap}
+use Rattle.hb_top.proofs.Saying.{said, said_part}
 use Rattle.hb_top.proofs.top.say.Goals as goal
 
-pub returns-in-Ok-clause-says_part : goal.returns-in-Ok-clause-says_part
-returns-in-Ok-clause-says_part g c = whole_front _ _ _ _ c.in-Ok.ensures.ok (c.as_bytes.ensures.value ∙ c.message.ensures)
+pub returns-in-Ok : goal.returns-in-Ok
+returns-in-Ok g c = said _ _ _ _ _ c.in-Ok.ensures.ok c.as_bytes.ensures.value
+
+pub returns-in-Err : goal.returns-in-Err
+returns-in-Err g c = said_part _ _ _ _ _ c.in-Err.ensures.failed c.in-Err.ensures.err c.as_bytes.ensures.value
