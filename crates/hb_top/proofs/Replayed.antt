@@ -1,6 +1,7 @@
 -- From what a replay gave to what the program promises.
 use Rattle.std.proofs.Common.{◌≡◌, ◌≢◌, ℕ, ◌+◌, ◌-◌, ◌<◌, ◌≤◌, ◌^◌, [], ◌++◌, length, take, drop, Option, Some, None, refl, sym, ap, ◌∙◌, subst, arith, string_bytes}
 use Rattle.std.proofs.lemmas.List.{take_all, drop_all}
+use Rattle.std.specs.Prelude.{Err}
 use Rattle.std.specs.Io.KnownBytes.{IsAtEnd}
 use Rattle.hb_io.specs.Told.{Takes, Appends, append_told}
 use Rattle.hb_io.proofs.ToldLemmas.{append_told-Some}
@@ -11,7 +12,9 @@ use Rattle.hol_logs.specs.Log.{IsGoodLog, IsPartOfReport}
 use Rattle.log_laws.proofs.Reports.{good_sound, part_sound}
 use Rattle.replay_check.specs.declared.why.Why.{Why}
 use Rattle.log_replay.specs.Messages.{bad_log_text}
-use Rattle.log_replay.specs.Replayed.{IsFaultOf, GainsReport, GainsFaultReport, GainsPart}
+use Rattle.log_replay.specs.Replayed.{IsFaultOf, GainsReport, GainsFaultReport, GainsPart, IfBadLog as IfBad}
+use Rattle.log_replay.specs.declared.replay.ReplayError.{ReplayError}
+use Rattle.log_replay.specs.declared.replay.ReplayError.TheVariants.{BadLog as BadError}
 use Rattle.log_replay.proofs.Closing.{gains_part}
 use Rattle.theory_answers.specs.Answer.{in_force}
 use Rattle.hb_top.specs.declared.top.Status.{Status}
@@ -49,6 +52,11 @@ reports_part given old new f r = λ b e kept k. let g = r b (front f b e).front 
 
 pub leaves : (given : Text) {left new_left : Option Text} → Fed left new_left given → LeavesLog left new_left
 leaves given f = λ b e. (front f b e).left
+
+-- ---- what the error says
+
+pub known : (e : ReplayError) (number : ℕ) (why : Why) (b : Text) (old new : Option Text) → e ≡ BadError number why → IfBad {X = Unit {0}} (Err e) (GainsFaultReport b old new) → GainsFaultReport b old new number why
+known e number why b old new is f = let g : IfBad {X = Unit {0}} (Err (BadError number why)) (GainsFaultReport b old new) = subst (λ x. IfBad {X = Unit {0}} (Err x) (GainsFaultReport b old new)) is f in g
 
 -- ---- whatever the source
 

@@ -108,7 +108,7 @@ unwritten_good old = λ kept k. ([], same_kept kept old k, no_bytes)
 pub unwritten_report : (left old : Option Text) → ReportsInPart left old old
 unwritten_report left old = λ b e kept k. ([], same_kept kept old k, nothing_reported b)
 
-pub ruleset unwritten_lemmas = (unwritten_part, unwritten_sound, unwritten_log, unwritten_good, unwritten_report)
+pub ruleset unwritten_lemmas = (unwritten_part, unwritten_sound, unwritten_log, unwritten_good)
 
 pub run_cut : (s : Status) (old new : Option Text) {left new_left : Option Text} {input out : Text} {refused : Bool} → Ran left new_left input out refused
     → IsPrinting s → (s ≡ WriteFault → AppendsPart old new out) → IfCut s (AnswersInPart left old new)

@@ -1,10 +1,16 @@
 //! Whole logs that are replayed, as bytes.
 
+ghost use Rattle.std.specs.Prelude.{ℕ, ◌<◌};
+
 use hb_io::{MemSink, MemSource};
 use hb_top::{Status, hbnf};
 use std::alloc::{AllocError, Global};
 use std::process::Abort;
+use std::str;
 use std::test::Fail;
+
+// What a log has room for.
+const ROOM: usize = 1 << 26;
 
 // Logs that aren't good and print nothing, and what is said of them.
 static BAD: [(&[u8], &str); 14] = [
@@ -30,34 +36,101 @@ static BAD: [(&[u8], &str); 14] = [
     ),
 ];
 
-fn words(alloc: Global) -> Result<Vec<String>, AllocError> {
-    let mut words = Vec::new(alloc);
-    words.push(String::from_str(alloc, "hbnf")?)?;
-    words.push(String::from_str(alloc, "replay")?)?;
-    Ok(words)
+const IDENTITY: &[u8] = b"define ident : 'a -> 'a = \\y:'a. y;";
+
+// What is printed for it up to its definition, and the theorem.
+const DEFINED: &str = "base 33\ncommand 1 define ident\ndef ident : 'a -> 'a = \\x0:'a. x0\n";
+const NAMED: &str = "thm ident.def : ident{'a} = (\\x0:'a. x0)\n";
+
+// What a run came to: its status, what stands on the output, and what was said.
+#[derive(Drop)]
+struct Run {
+    status: Status,
+    kept: Vec<u8>,
+    said: Vec<u8>,
 }
 
-// Replays a log that isn't good and prints nothing.
-fn expect_bad(
+fn run(alloc: Global, mode: &str, input: &[u8], piece: usize) -> Result<Run, AllocError>
+    requires { 0 < piece }
+{
+    let mut words = Vec::new(alloc);
+    words.push(String::from_str(alloc, "hbnf")?)?;
+    words.push(String::from_str(alloc, mode)?)?;
+    let mut src = MemSource::new(input.to_vec(alloc)?, piece, vec![in alloc]?);
+    let mut out = MemSink::new(alloc, ROOM, piece, vec![in alloc]?)?;
+    let mut err = MemSink::new(alloc, 64, piece, vec![in alloc]?)?;
+    let status = hbnf(alloc, &words, &mut src, &mut out, &mut err);
+    Ok(Run {
+        status,
+        kept: out.kept().to_vec(alloc)?,
+        said: err.kept().to_vec(alloc)?,
+    })
+}
+
+fn expect_replay(
     rt: &impl Abort,
     alloc: Global,
     log: &[u8],
-    said: &str,
+    want: (Status, &str, &str),
 ) -> Result<(), AllocError> {
-    let mut src = MemSource::new(log.to_vec(alloc)?, 3, vec![in alloc]?);
-    let mut out = MemSink::new(alloc, 64, 4, vec![in alloc]?)?;
-    let mut err = MemSink::new(alloc, 64, 4, vec![in alloc]?)?;
-    let status = hbnf(alloc, &words(alloc)?, &mut src, &mut out, &mut err);
-    assert_eq!(rt; status, Status::BadLog);
-    assert!(rt; out.kept().is_empty());
-    assert_eq!(rt; err.kept(), said.as_bytes());
+    let replay = run(alloc, "replay", log, 4096)?;
+    assert_eq!(rt; replay.status, want.0);
+    assert_eq!(rt; replay.kept.as_slice(), want.1.as_bytes());
+    assert_eq!(rt; replay.said.as_slice(), want.2.as_bytes());
     Ok(())
 }
 
 #[test]
 fn bad_logs(rt: HostRuntime) -> Result<(), Fail> {
     for (log, said) in &BAD {
-        expect_bad(&rt, rt.alloc(), log, said)?;
+        let replay = run(rt.alloc(), "replay", log, 3)?;
+        assert_eq!(rt; replay.status, Status::BadLog);
+        assert!(rt; replay.kept.is_empty());
+        assert_eq!(rt; replay.said.as_slice(), said.as_bytes());
     }
+    Ok(())
+}
+
+// The log with another term in the line that names the theorem, and that line's number.
+fn renamed(alloc: Global, log: &str) -> Result<(String, usize), AllocError> {
+    let mut changed = String::new(alloc);
+    let mut number = 0_usize;
+    let mut at = 0_usize;
+    for line in log.lines() {
+        at = at.saturating_add(1);
+        if line.starts_with("name ident.def ") {
+            number = at;
+            let step = line.split(' ').nth(2).unwrap_or("0");
+            changed.push_str("name ident.def ")?;
+            changed.push_str(step)?;
+            changed.push_str(" ident{'a} = ident{'a}\n")?;
+        } else {
+            changed.push_str(line)?;
+            changed.push_str("\n")?;
+        }
+    }
+    Ok((changed, number))
+}
+
+#[test]
+fn logs_replay(rt: HostRuntime) -> Result<(), Fail> {
+    let alloc = rt.alloc();
+    let written = run(alloc, "log", IDENTITY, 4096)?;
+    assert_eq!(rt; written.status, Status::Done);
+    let Ok(log) = str::from_utf8(&written.kept) else {
+        panic!(&rt; "the log is UTF-8");
+    };
+    let report = format!(in alloc; "{DEFINED}{NAMED}")?;
+    expect_replay(&rt, alloc, log.as_bytes(), (Status::Done, report.as_str(), ""))?;
+    let lines = log.lines().count();
+    let cut = format!(in alloc; "badlog {lines} cut\n")?;
+    let Some((front, _)) = log.trim_end().rsplit_once('\n') else {
+        panic!(&rt; "the log has lines");
+    };
+    let front = format!(in alloc; "{front}\n")?;
+    expect_replay(&rt, alloc, front.as_bytes(), (Status::BadLog, report.as_str(), cut.as_str()))?;
+    let (changed, number) = renamed(alloc, log)?;
+    let said = format!(in alloc; "badlog {number} text\n")?;
+    expect_replay(&rt, alloc, changed.as_bytes(), (Status::BadLog, DEFINED, said.as_str()))?;
     Ok(())
 }

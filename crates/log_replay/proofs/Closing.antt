@@ -1,5 +1,5 @@
 -- What a log comes to once its lines were fed.
-use Rattle.std.proofs.Common.{◌≡◌, ◌≢◌, ℕ, suc, ◌+◌, ◌<◌, ◌≤◌, ◌^◌, Bool, true, false, not, ◌&&◌, ◌==◌, List, [], ◌∷◌, ◌++◌, length, take, drop, inl, inr, Option, None, refl, sym, ap, ◌∙◌, subst, append_assoc, append-nil, arith, true≢false}
+use Rattle.std.proofs.Common.{◌≡◌, ◌≢◌, ℕ, suc, ◌<◌, ◌^◌, Bool, true, false, not, ◌&&◌, ◌==◌, [], ◌∷◌, ◌++◌, length, take, drop, inl, inr, Option, refl, sym, ap, ◌∙◌, subst, append-nil, arith, true≢false}
 use Rattle.std.specs.Prelude.{Result, Ok, Err, OnOk}
 use Rattle.std.proofs.lemmas.Bool.{cases_lt}
 use Rattle.std.proofs.lemmas.List.{length-append, length-take-le, take-append-drop, take_all}
@@ -7,7 +7,7 @@ use Rattle.hb_io.proofs.ToldLemmas.{append_told-nil}
 use Rattle.hol_terms.specs.Text.{Text}
 use Rattle.hol_terms.specs.Sound.{complete_lines}
 use Rattle.hol_logs.specs.Position.{LogPosition, start_position, Why, by_cut}
-use Rattle.hol_logs.specs.Log.{unended, line_unless_empty, log_lines, unlines, is_ended, Reads, no_line, IsGoodLog, good_log, IsBadLog, bad_line, cut_off, IsPartOfReport}
+use Rattle.hol_logs.specs.Log.{unended, line_unless_empty, log_lines, unlines, is_ended, Reads, no_line, good_log, IsBadLog, bad_line, cut_off, IsPartOfReport}
 use Rattle.replay_check.specs.declared.why.Why.{Why as Cause}
 use Rattle.replay_check.specs.declared.why.Why.TheVariants.{Form, Number, Rule, Unfit, Base, Text as Statement, Count, Cut, Endless}
 use Rattle.replay_check.specs.Checked.{CheckerState}

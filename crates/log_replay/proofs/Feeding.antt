@@ -1,15 +1,14 @@
 -- From line to line, and from the lines that were fed to the log.
-use Rattle.std.proofs.Common.{◌≡◌, ◌≢◌, ℕ, suc, ◌+◌, ◌<◌, ◌≤◌, ◌^◌, Bool, true, false, cond, ◌==◌, List, [], ◌∷◌, ◌++◌, length, take, drop, Option, Some, None, refl, sym, ap, ◌∙◌, subst, append_assoc, append-nil, arith}
+use Rattle.std.proofs.Common.{◌≡◌, ◌≢◌, ℕ, suc, Bool, true, false, cond, List, [], ◌∷◌, ◌++◌, length, take, drop, Option, Some, None, refl, sym, ap, ◌∙◌, subst, append_assoc, append-nil, arith}
 use Rattle.std.specs.Prelude.{Result, Ok, Err, OnOk, String, string_bytes}
 use Rattle.std.specs.declared.alloc.Global.{Global}
 use Rattle.std.proofs.lemmas.List.{length-append, take-append-drop}
 use Rattle.hb_io.specs.Told.{Appends, append_told}
 use Rattle.hb_io.proofs.ToldLemmas.{append_told-nil, append_told-append}
 use Rattle.hol_terms.specs.Text.{Text}
-use Rattle.hol_terms.specs.Sound.{complete_lines}
 use Rattle.hol_logs.specs.Line.{LogLine}
 use Rattle.hol_logs.specs.Position.{LogPosition, start_position, after, report_of, Why, by_form, by_number, by_rule, by_unfit, by_base, by_text, by_count, by_cut, is_misplaced, lacks_a_step, breaks_its_rule, is_unfit, is_off_base, names_another, miscounts, first_cause}
-use Rattle.hol_logs.specs.Log.{log_lines, unlines, IsGood, IsBad, no_form, a_cause, Reads, no_line, one_more, IsBadLog, bad_line, IsPartOfReport}
+use Rattle.hol_logs.specs.Log.{log_lines, unlines, IsGood, IsBad, no_form, a_cause, Reads, no_line, one_more, IsBadLog, bad_line}
 use Rattle.replay_check.specs.declared.why.Why.{Why as Cause}
 use Rattle.replay_check.specs.declared.why.Why.TheVariants.{Form, Number, Rule, Unfit, Base, Text as Statement, Count, Cut, Endless}
 use Rattle.replay_check.specs.Checked.{CheckerState, IsFed, IsFeedError}
@@ -149,7 +148,7 @@ pub bad_in : (b : Text) (texts rest : List Text) (text : Text) (old new : Option
 bad_in b texts rest text old new number why e f = record {
   report = unlines f.said;
   fault = fault_of b (unlines f.said) number why (bad_is_not_cut in_force f.position text (cause_of why) f.bad)
-  (subst (λ k. IsBadLog in_force b (unlines f.said) k (cause_of why)) (sym f.number_is) (bad_line texts rest f.said f.position text (cause_of why) e f.read f.bad));
+      (subst (λ k. IsBadLog in_force b (unlines f.said) k (cause_of why)) (sym f.number_is) (bad_line texts rest f.said f.position text (cause_of why) e f.read f.bad));
   gained = f.gained;
 }
 

@@ -6,7 +6,7 @@ use Rattle.hol_terms.specs.Sound.{complete_lines}
 use Rattle.hol_logs.specs.Position.{LogPosition}
 use Rattle.hol_logs.specs.Log.{unlines, Reads, IsGoodLog, IsBadLog, IsPartOfReport}
 use Rattle.replay_check.specs.declared.why.Why.{Why as Cause}
-use Rattle.replay_check.specs.declared.why.Why.TheVariants.{Form, Number, Rule, Unfit, Base, Text as Statement, Count, Cut, Endless}
+use Rattle.replay_check.specs.declared.why.Why.TheVariants.{Endless}
 use Rattle.replay_check.specs.InForce.{in_force}
 use Rattle.replay_check.specs.Positions.{cause_of}
 use Rattle.log_replay.specs.declared.replay.ReplayError.{ReplayError}

@@ -1,4 +1,4 @@
-use Rattle.std.proofs.Common.{sym}
+use Rattle.hb_top.proofs.Running.{unwritten_report}
 use Rattle.hb_top.proofs.Replayed.{Fed, fed, reports, leaves, plain_cut, bad_tells, all_leave, sound, not_unwritten, log_status}
 use Rattle.hb_top.proofs.top.replay_log.Goals as goal
 
@@ -49,3 +49,6 @@ returns-clause-unwritten g c = not_unwritten c.replayed.result _ _ c.replayed.en
 
 pub returns-clause-log : goal.returns-clause-log
 returns-clause-log g c = log_status c.replayed.result c.replayed.ensures.ending
+
+pub returns-in-Err-Memory-clause-replay_cut : goal.returns-in-Err-Memory-clause-replay_cut
+returns-in-Err-Memory-clause-replay_cut g c = unwritten_report (g.S.Source.left c.args.src.now) (g.O.Sink.kept c.args.out.now)

@@ -1,4 +1,4 @@
-use Rattle.std.proofs.Common.{ℕ, ◌<◌, length, get_or, take, arith}
+use Rattle.std.proofs.Common.{ℕ, take, arith}
 use Rattle.std.proofs.lemmas.Result.{err_from_is_err_and}
 use Rattle.hol_terms.specs.Sound.{complete_lines}
 use Rattle.log_replay.proofs.Bytes.{begin, few, newline, byte, stopped, all_fed, rest_is}

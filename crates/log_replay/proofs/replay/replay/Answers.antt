@@ -1,4 +1,4 @@
-use Rattle.std.proofs.Common.{ℕ, ◌<◌, ◌≤◌, ◌^◌, length, arith}
+use Rattle.std.proofs.Common.{ℕ, ◌<◌, ◌^◌, length, arith}
 use Rattle.std.proofs.lemmas.Result.{err_from_is_err_and}
 use Rattle.log_replay.proofs.Bytes.{lines_within, rest_from}
 use Rattle.log_replay.proofs.Closing.{nothing_written, endless, stopped_bad, stopped_part, closed_good, closed_bad, closed_part}
