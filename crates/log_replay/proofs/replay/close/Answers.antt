@@ -17,3 +17,8 @@ returns-in_err-feed_line-clause-closed g c =
 
 pub returns-clause-closed : goal.returns-clause-closed
 returns-clause-closed g c = λ log kept e a. unended_cut log _ _ kept _ _ e (some_left _ _ c.is_empty.ensures c.if-is_empty.false) c.next_number-number.ensures (c.in_ok-feed_line.ensures.fed (complete_lines log) kept a)
+
+pub returns-in_err-feed_line-clause-fault : goal.returns-in_err-feed_line-clause-fault
+returns-in_err-feed_line-clause-fault g c =
+    let p = err_from_is_err_and c.from_residual.result c.from_residual.ensures.1 in
+    rw (p.1, p.2) c.in_err-feed_line.ensures.fault

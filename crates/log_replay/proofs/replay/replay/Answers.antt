@@ -36,3 +36,8 @@ returns-clause-bad g c = λ b e. let short : length c.args.log.now < 2 ^ 62 = om
 
 pub returns-clause-part : goal.returns-clause-part
 returns-clause-part g c = λ b e. let short : length c.args.log.now < 2 ^ 62 = omega (arith, c.requires, c.if-log-eq-MOST_BYTES.false) in closed_part _ b _ _ _ e short (c.close.ensures.closed c.args.log.now _ (rest_from c.args.log.now c.in_ok-start.start c.in_ok-start.ensures.rest) c.in_ok-start.ensures.fed)
+
+pub returns-in_err-start-clause-fault : goal.returns-in_err-start-clause-fault
+returns-in_err-start-clause-fault g c =
+    let p = err_from_is_err_and c.from_residual-in_err-start.result c.from_residual-in_err-start.ensures.1 in
+    rw (p.1, p.2) c.in_err-start.ensures.fault
