@@ -50,13 +50,13 @@ const NAMED: &str = "thm ident.def : ident{'a} = (\\x0:'a. x0)\n";
 
 // What a run came to: its status, what stands on the output, and what was said.
 #[derive(Drop)]
-struct Run {
+struct Ended {
     status: Status,
     kept: Vec<u8>,
     said: Vec<u8>,
 }
 
-fn run(alloc: Global, mode: &str, input: &[u8], piece: usize) -> Result<Run, AllocError>
+fn run(alloc: Global, mode: &str, input: &[u8], piece: usize) -> Result<Ended, AllocError>
     requires { 0 < piece }
 {
     let mut words = Vec::new(alloc);
@@ -66,7 +66,7 @@ fn run(alloc: Global, mode: &str, input: &[u8], piece: usize) -> Result<Run, All
     let mut out = MemSink::new(alloc, ROOM, piece, vec![in alloc]?)?;
     let mut err = MemSink::new(alloc, 64, piece, vec![in alloc]?)?;
     let status = hbnf(alloc, &words, &mut src, &mut out, &mut err);
-    Ok(Run {
+    Ok(Ended {
         status,
         kept: out.kept().to_vec(alloc)?,
         said: err.kept().to_vec(alloc)?,
