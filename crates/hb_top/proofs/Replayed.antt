@@ -1,13 +1,11 @@
 -- From what a replay gave to what the program promises.
-use Rattle.std.proofs.Common.{◌≡◌, ◌≢◌, ℕ, ◌+◌, ◌-◌, ◌<◌, ◌≤◌, ◌^◌, [], ◌++◌, length, take, drop, Option, Some, None, refl, sym, ap, ◌∙◌, subst, arith, string_bytes}
-use Rattle.std.proofs.lemmas.List.{take_all, drop_all}
+use Rattle.std.proofs.Common.{◌≡◌, ℕ, ◌-◌, ◌<◌, ◌≤◌, ◌^◌, ◌++◌, length, take, Option, Some, refl, sym, ap, ◌∙◌, subst, arith, string_bytes}
+use Rattle.std.proofs.lemmas.List.{take_all}
 use Rattle.std.specs.Prelude.{Err}
 use Rattle.std.specs.Io.KnownBytes.{IsAtEnd}
 use Rattle.hb_io.specs.Told.{Takes, Appends, append_told}
 use Rattle.hb_io.proofs.ToldLemmas.{append_told-Some}
 use Rattle.hol_terms.specs.Text.{Text}
-use Rattle.hol_terms.specs.Base.{base}
-use Rattle.hol_terms.specs.Sound.{IsSound}
 use Rattle.hol_logs.specs.Log.{IsGoodLog, IsPartOfReport}
 use Rattle.log_laws.proofs.Reports.{good_sound, part_sound}
 use Rattle.replay_check.specs.declared.why.Why.{Why}
@@ -17,12 +15,11 @@ use Rattle.log_replay.specs.declared.replay.ReplayError.{ReplayError}
 use Rattle.log_replay.specs.declared.replay.ReplayError.TheVariants.{BadLog as BadError}
 use Rattle.log_replay.proofs.Closing.{gains_part}
 use Rattle.theory_answers.specs.Answer.{in_force}
-use Rattle.hb_top.specs.declared.top.Status.{Status}
 use Rattle.hb_top.specs.declared.top.Status.TheVariants.{Done, Refused, Usage, ReadFault, WriteFault, Memory, BadLog}
 use Rattle.hb_top.specs.declared.top.Ending.{Ending}
 use Rattle.hb_top.specs.declared.top.Ending.TheVariants.{Plain, BadLog as BadEnding}
 use Rattle.hb_top.specs.Headline.{IfCut, GainsSound, IsUnwritten, Says}
-use Rattle.hb_top.specs.Replaying.{Gains, Reports, ReportsFault, ReportsInPart, IfReplayed, LeavesLog}
+use Rattle.hb_top.specs.Replaying.{Reports, ReportsFault, ReportsInPart, IfReplayed, LeavesLog}
 use Rattle.hb_top.specs.Endings.{status_of, said_of, TellsFault, TellsReport, IfBadLog, IsReplaying, IsLogStatus}
 use Rattle.hb_top.proofs.Running.{Front, front_is, gains}
 

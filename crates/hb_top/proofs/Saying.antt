@@ -1,5 +1,5 @@
 -- What a sink gained.
-use Rattle.std.proofs.Common.{◌≡◌, ap, sym, ◌∙◌, subst, length, take, take_all, Option, arith}
+use Rattle.std.proofs.Common.{◌≡◌, ap, sym, ◌∙◌, subst, length, take_all, Option, arith}
 use Rattle.hol_terms.specs.Text.{Text}
 use Rattle.hb_io.specs.Told.{Appends, AppendsPart, append_told}
 use Rattle.hb_top.specs.Headline.{Says, AppendsFront}

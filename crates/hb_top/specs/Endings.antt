@@ -6,7 +6,7 @@ use Rattle.replay_check.specs.declared.why.Why.{Why}
 use Rattle.log_replay.specs.Messages.{bad_log_text}
 use Rattle.log_replay.specs.Replayed.{GainsFaultReport}
 use Rattle.hb_top.specs.declared.top.Status.{Status}
-use Rattle.hb_top.specs.declared.top.Status.TheVariants.{Done, Refused, Usage, ReadFault, WriteFault, Memory, BadLog}
+use Rattle.hb_top.specs.declared.top.Status.TheVariants.{Done, Refused, Usage, WriteFault, Memory, BadLog}
 use Rattle.hb_top.specs.declared.top.Ending.{Ending}
 use Rattle.hb_top.specs.declared.top.Ending.TheVariants.{Plain, BadLog as BadEnding}
 use Rattle.hb_top.specs.Headline.{message_of}

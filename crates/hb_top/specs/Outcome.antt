@@ -1,5 +1,5 @@
 -- What the parts of a run came to.
-use Rattle.std.specs.Prelude.{◌≡◌, Result, Ok, Err}
+use Rattle.std.specs.Prelude.{Result, Ok, Err}
 use Rattle.hb_top.specs.declared.input.InputError.{InputError}
 use Rattle.hb_top.specs.declared.input.InputError.TheVariants.{Fault, Memory}
 

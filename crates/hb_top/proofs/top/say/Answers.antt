@@ -1,4 +1,3 @@
-use Rattle.std.proofs.Common.{◌∙◌, ap}
 use Rattle.hb_top.proofs.Saying.{said, said_part}
 use Rattle.hb_top.proofs.top.say.Goals as goal
 
