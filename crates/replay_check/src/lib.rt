@@ -11,3 +11,5 @@ mod reports;
 mod steps;
 mod walks;
 pub mod why;
+
+pub use bases::BASE_DEFINITIONS;
