@@ -1,8 +1,9 @@
-"""Proof tables of the first library, from the scripts in tools/library/.
+"""Proof tables of the library, from the scripts in tools/library/.
 
-    python3 tools/library.py check          runs every table that stands in the crate by a reader of its own, from the stated facts
-                                            alone, and compares the file with what `write` writes
-    python3 tools/library.py write          writes the tables, the list of facts and the proofs about them in crates/th_base
+    python3 tools/library.py check          runs every table that stands in the crates by a reader of its own, from the stated facts
+                                            alone, and compares the files with what `write` writes
+    python3 tools/library.py write          writes the tables and the proofs about them in th_base, th_num and th_count, and the
+                                            statements and lists of facts in library_facts
     python3 tools/library.py count [FILE]   how long each table is; beside it the numbers of FILE, which has `(N lines` a fact
     python3 tools/library.py show NAME      the lines of one table, each with what it computes
     python3 tools/library.py build          the definitions and facts, in the order in which they are made
@@ -14,8 +15,8 @@ import pathlib
 import re
 import sys
 
-from library import logic, products, sums  # noqa: F401 (they run when they are read)
-from library import checker, rust, sample
+from library import logic, products, sums, numbers, paths, countable, csets  # noqa: F401 (they run when they are read, in this order)
+from library import checker, rust, sample, sources
 from library.build import LIBRARY, make
 from library.kernel import Theory
 from library.script import Proof
@@ -28,11 +29,16 @@ TABLES = [table_of(entry) for entry in ENTRIES]
 
 def written():
     """By their paths, the texts of the files that the tool writes."""
-    made = []
-    for kind, n, entry in LIBRARY.steps:
-        made.append(rust.Made(n, entry, entry and table_of(entry)))
-    return {rust.TABLES: rust.source(made), rust.FACTS: rust.facts(made), rust.PROOFS: rust.proofs(made),
-            rust.ANSWERS: rust.answers(made)}
+    groups = {name: group for group, name in LIBRARY.stated}
+    texts = {rust.LISTS: rust.lists(LIBRARY.parts), rust.READINGS: rust.readings(LIBRARY.stated),
+             rust.STATEMENTS: rust.statements(LIBRARY.stated, sources.subjects())}
+    for part in LIBRARY.parts:
+        made = [rust.Made(n, entry, entry and table_of(entry)) for _, n, entry in part.steps]
+        crate = rust.CRATES / part.crate
+        texts[crate / "src/tables" / (part.name + ".rt")] = rust.source(part, made, groups)
+        texts[crate / "proofs" / (rust.module(part) + ".antt")] = rust.proofs(part, made, groups)
+        texts[crate / ("proofs/building/build_%s/Answers.antt" % part.name)] = rust.answers(part, made)
+    return texts
 
 
 def runs(tables):
@@ -87,9 +93,10 @@ def check():
     missing = [name for _, name in LIBRARY.stated if name not in LIBRARY.proved]
     if missing:
         raise SystemExit("no script proves %s" % ", ".join(missing))
-    text = rust.TABLES.read_text()
-    wrong = 0
-    for entry, table, run in runs(rust.tables_in(text)):
+    tables, wrong = {}, 0
+    for part in LIBRARY.parts:
+        tables |= rust.tables_in((rust.CRATES / part.crate / "src/tables" / (part.name + ".rt")).read_text())
+    for entry, table, run in runs(tables):
         try:
             found = str(checker.ran(run, table.text))
         except checker.Fails as fault:

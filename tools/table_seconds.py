@@ -1,9 +1,12 @@
 #!/usr/bin/env python3
-"""Seconds of `rt check` for each table of the library, one after another.
+"""Seconds of `rt check` for each table of a part of the library, one after another.
 
-Run from the top of the repository, where th_base is built (`rt lib` in crates/th_base): for each table it writes a crate `one_table` with a law
-that the table gives its fact, checks it from nothing with one job, prints the seconds of the wall and of the processor, and takes the crate away
-again. The first line is a crate with an equation of truth values in place of a table: what loading costs."""
+    python3 tools/table_seconds.py CRATE [NAME..]
+
+Run from the top of the repository, where library_steps is built (`rt lib` in crates/library_steps): for each table of the crate, or each one that
+is named, it writes a crate `one_table` with a law that the table gives its fact, checks it from nothing with one job, prints the seconds of the
+wall and of the processor, and takes the crate away again. The first line is a crate with an equation of truth values in place of a table: what
+loading costs."""
 import os
 import re
 import resource
@@ -12,7 +15,6 @@ import subprocess
 import sys
 import time
 
-PROOFS = "crates/th_base/proofs/TableProofs.antt"
 LAW = """//! One table of the library.
 #![tactic(auto)]
 
@@ -43,15 +45,15 @@ def seconds(proofs):
 
 
 def main():
-    only = sys.argv[1:]
-    head, lemmas = tables(open(PROOFS).read())
+    crate, *only = sys.argv[1:]
+    head, lemmas = tables(open("crates/%s/proofs/TableProofs.antt" % crate).read())
     crates = open("crates.txt").read()
-    line = next(it for it in crates.splitlines() if it.startswith("th_base:"))
+    line = next(it for it in crates.splitlines() if it.startswith(crate + ":"))
     os.makedirs("crates/one_table/src")
     os.makedirs("crates/one_table/proofs")
     try:
         with open("crates.txt", "a") as file:
-            file.write("one_table: th_base " + line.split(": ")[1] + "\n")
+            file.write("one_table: " + line.split(": ")[1] + "\n")
         with open("crates/one_table/src/lib.rt", "w") as file:
             file.write(LAW)
         with open("crates/one_table/proofs/Lib.antt", "w") as file:

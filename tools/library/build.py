@@ -1,4 +1,5 @@
-"""The first library as it is built: the base definitions in their order, and between them the facts that scripts prove."""
+"""The library as it is built: the base definitions in their order, and between them the facts that scripts prove. Each part of it is built
+by a crate of its own."""
 
 from dataclasses import dataclass
 
@@ -33,24 +34,63 @@ class Entry:
     result: Line
 
 
+@dataclass
+class Part:
+    """What a crate builds by the scripts of one file: its steps, how many base definitions are there before them, and the parts before."""
+
+    crate: str
+    name: str  # of the file, and of the tables' file in the crate
+    facts: str  # the name of the list of its facts
+    title: str
+    before: int
+    earlier: list
+    steps: list  # ("define", n, None), ("type", n, Entry) or ("fact", None, Entry)
+
+    @property
+    def proved(self):
+        """The group and the name of each fact that it proves, in order."""
+        return [(entry.group, entry.name) for _, _, entry in self.steps if entry and entry.group]
+
+    @property
+    def lists(self):
+        """The names of the lists of facts that are there before: one for the whole first library, then one a part."""
+        if self.crate == FIRST:
+            return [part.facts for part in self.earlier]
+        return ["base_facts"] + [part.facts for part in self.earlier if part.crate != FIRST]
+
+
+FIRST = "th_base"
+
+
 class Library:
-    """The first library: the base definitions, and between them the facts, in the order in which they are built."""
+    """The parts of the library, in the order in which they are built."""
 
     def __init__(self):
         self.theory = Theory()
         self.stated = sources.stated_facts()
         self.base, axioms = sources.base_lines()
-        self.steps = []  # ("define", n, None), ("type", n, Entry) or ("fact", None, Entry)
+        self.parts = []
         self.proved = {}
         for line in self.base[:10]:
             make(self.theory, line)
         self.theory.axioms = [self.theory.signature.read_term(text) for text in axioms]
         self.rules = Rules(self.theory)
 
+    def begin(self, crate, name, facts, title):
+        """Begins a part."""
+        self.parts.append(Part(crate, name, facts, title, len(self.theory.names), list(self.parts), []))
+
+    @property
+    def steps(self):
+        return [step for part in self.parts for step in part.steps]
+
+    def step(self, kind, n, entry):
+        self.parts[-1].steps.append((kind, n, entry))
+
     def define(self, *numbers):
         for n in numbers:
             self.make(n)
-            self.steps.append(("define", n, None))
+            self.step("define", n, None)
 
     def make(self, n, a=None):
         if n != len(self.theory.names) + 1:
@@ -76,7 +116,7 @@ class Library:
             raise Wrong("no fact %s is stated" % name_of(script))
         sentence, text = self.stated[group, name_of(script)]
         entry = self.run(script, group, sentence, self.theory.signature.read_term(text))
-        self.steps.append(("fact", None, entry))
+        self.step("fact", None, entry)
         return script
 
     def makes_type(self, n):
@@ -85,7 +125,7 @@ class Library:
         def run(script):
             entry = self.run(script, None, script.__doc__, None)
             self.make(n, entry.result.thm)
-            self.steps.append(("type", n, entry))
+            self.step("type", n, entry)
             return script
 
         return run

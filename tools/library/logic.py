@@ -2,6 +2,8 @@
 
 from .build import LIBRARY
 
+LIBRARY.begin("th_base", "logic", "logic_facts", "logic, choice, the identity and the conditional")
+
 fact = LIBRARY.fact
 
 

@@ -2,6 +2,8 @@
 
 from .build import LIBRARY
 
+LIBRARY.begin("th_base", "products", "product_facts", "unit and products")
+
 fact = LIBRARY.fact
 makes_type = LIBRARY.makes_type
 

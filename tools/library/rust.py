@@ -3,76 +3,76 @@
 import re
 from dataclasses import dataclass
 
+from .build import FIRST
 from .sources import TOP, unescaped
 from .table import Table
 
 WIDTH = 100
 CALL_WIDTH = 60
-CRATE = TOP / "crates/th_base"
-TABLES = CRATE / "src/tables.rt"
-FACTS = CRATE / "specs/Library.antt"
-PROOFS = CRATE / "proofs/TableProofs.antt"
-ANSWERS = CRATE / "proofs/building/build/Answers.antt"
+CRATES = TOP / "crates"
+LISTS = CRATES / "library_facts/specs/Libraries.antt"
+STATEMENTS = CRATES / "library_facts/specs/Facts.antt"
+READINGS = CRATES / "library_facts/proofs/FactsRead.antt"
 WRITTEN_BY = "Written by `python3 tools/library.py write` from the scripts of tools/library/."
 HEAD = """\
 // %s
-//! The proof tables of the first library, and the steps in which it is built. Each line of a table puts one type, term or theorem
-//! at the end of its register; the theorems begin with the facts that the table takes.
+//! TITLE: the proof tables, and the steps of the building. Each line of a table puts
+//! one type, term or theorem at the end of its register; the theorems begin with the facts that the table takes.
 
-use crate::step::Step;
-use library_facts::{Fact, LogicFact, ProductFact, SumFact};
+use library_facts::{GROUPS};
+use library_steps::Step;
 """ % WRITTEN_BY
 
-# The facts, as a list.
-FACTS_HEAD = """\
+# The facts of each part, as lists.
+LISTS_HEAD = """\
 -- %s
--- The facts of the first library.
-use Rattle.std.specs.Prelude.{List, [], ◌∷◌}
+-- The facts that each part of the library proves, in the order of proving.
+use Rattle.std.specs.Prelude.{List, [], ◌∷◌, ◌++◌}
 use Rattle.library_facts.specs.declared.facts.Fact.{Fact}
-use Rattle.library_facts.specs.declared.facts.Fact.TheVariants.{Logic, Product, Sum}
+use Rattle.library_facts.specs.declared.facts.Fact.TheVariants.{GROUPS}
 VARIANTS
--- in the order in which they are proved
-abbrev pub library_facts : List Fact
-library_facts =
 """ % WRITTEN_BY
 
 # What each step gives, by computation.
 PROOFS_HEAD = """\
 -- %s
--- What the tables of the library give, and which base definitions are constants.
-use Rattle.std.proofs.Common.{◌≡◌, true, refl, List, [], ◌∷◌, codes}
+-- What the tables give, and which base definitions are constants.
+use Rattle.std.proofs.Common.{◌≡◌, true, refl, [], ◌∷◌, codes}
 use Rattle.hol_terms.specs.Base.{base}
 use Rattle.hol_terms.specs.Text.{Text}
-use Rattle.library_facts.specs.declared.facts.Fact.TheVariants.{Logic, Product, Sum}
+use Rattle.library_facts.specs.declared.facts.Fact.TheVariants.{GROUPS}
 VARIANTS
 use Rattle.script_core.specs.Tables.{fact_sequent, table_sequent}
-use Rattle.th_base.specs.Closed.{nothing, Proves}
-use Rattle.th_base.specs.Building.{IsConstantAt, IsTypeAt}
-use Rattle.th_base.proofs.Computed.{library_table, agree, proves, constant_at, new_type_at}
+use Rattle.library_steps.specs.Closed.{nothing, Proves}
+use Rattle.library_steps.specs.Building.{IsConstantAt, IsTypeAt}
+use Rattle.library_steps.proofs.Computed.{library_table, agree, proves, constant_at, new_type_at}
 """ % WRITTEN_BY
 
 # Why the steps can be taken, a fact's premises by their places among the facts before it.
 ANSWERS_HEAD = """\
 -- %s
 use Rattle.std.proofs.Common.{refl}
-use Rattle.th_base.proofs.Computed.{from_none, from_more}
-use Rattle.th_base.proofs.TableProofs.{LEMMAS}
-use Rattle.th_base.proofs.Taken.{none_on}
-use Rattle.th_base.proofs.building.build.Goals as goal
+use Rattle.library_steps.proofs.Computed.{from_none, from_more}
+use Rattle.library_steps.proofs.Taken.{LEMMAS_ON, can_take, made_to, facts_to, base_is}
+use Rattle.CRATE.proofs.MODULE.{LEMMAS}
+use Rattle.CRATE.proofs.building.build_NAME.Goals as goal
+
+pub take_steps-requires-clause-base : goal.take_steps-requires-clause-base
+take_steps-requires-clause-base c = base_is BEFORE _ refl c.requires.defs
+
+pub take_steps-requires-clause-shelf : goal.take_steps-requires-clause-shelf
+take_steps-requires-clause-shelf c = c.requires.shelf
 
 pub take_steps-requires-clause-fit : goal.take_steps-requires-clause-fit
-take_steps-requires-clause-fit c = record { all = """ % WRITTEN_BY
+take_steps-requires-clause-fit c = can_take c.requires.defs KNOWN (record { all = """ % WRITTEN_BY
 
-ANSWERS_TAIL = """ }
-
-pub take_steps-requires-clause-built : goal.take_steps-requires-clause-built
-take_steps-requires-clause-built c = record { defs = c.requires.defs; had = c.requires.shelf; on = none_on c.args.s.now }
+ANSWERS_TAIL = """ })
 
 pub returns-clause-defs : goal.returns-clause-defs
-returns-clause-defs c = c.in_ok-take_steps.ensures.built.defs
+returns-clause-defs c = made_to c.in_ok-take_steps.ensures.defs c.requires.defs refl
 
-pub returns-clause-facts : goal.returns-clause-facts
-returns-clause-facts c = c.in_ok-take_steps.ensures.built.on
+pub returns-clause-FACTS : goal.returns-clause-FACTS
+returns-clause-FACTS c = facts_to c.in_ok-take_steps.ensures.facts refl
 
 pub returns-clause-shelf : goal.returns-clause-shelf
 returns-clause-shelf c = c.take_steps.ensures.shelf
@@ -92,6 +92,60 @@ returns-in_err-take_steps-clause-more c = c.take_steps.ensures.more
 pub returns-in_err-take_steps-clause-keeps : goal.returns-in_err-take_steps-clause-keeps
 returns-in_err-take_steps-clause-keeps c = c.take_steps.ensures.keeps
 """
+
+# The statements of the facts, and that each reads as a term.
+STATEMENTS_HEAD = """\
+-- %s
+-- The facts of the library: each is stated by a text, which is read over the base definitions.
+use Rattle.std.specs.Prelude.{◌≡◌, codes}
+use Rattle.hol_terms.specs.Tm.{Tm}
+use Rattle.hol_terms.specs.Definition.{signature_of}
+use Rattle.hol_terms.specs.Base.{base_definitions}
+use Rattle.hol_terms.specs.Text.{Text}
+use Rattle.hol_terms.specs.Reading.{reads, reading_of_term}
+use Rattle.library_facts.specs.declared.facts.Fact.{Fact}
+use Rattle.library_facts.specs.declared.facts.Fact.TheVariants.{GROUPS}
+VARIANTS
+""" % WRITTEN_BY.replace("from the scripts of tools/library/", "from src/facts.rt")
+
+STATEMENTS_TAIL = """
+-- the statement of a fact, in canonical text
+abbrev pub fact_text : Fact → Text
+CASES
+
+-- the term that the statement is
+pub record States (fact : Fact) (t : Tm) : Type 0 where
+  pub is : reading_of_term (signature_of base_definitions) (fact_text fact) ≡ reads t
+"""
+
+COMPUTED = (
+    "reading_of_term base_signature tokens chars encode types_at dtype_at type_at typed_at braces_at atom_at atoms_at application_at "
+    "bound_at body_at binder_at term_at applied function constant fitted apply equation connective negation quantified same_ty"
+)
+
+READINGS_HEAD = """\
+-- %s
+-- Each statement reads as a term.
+use Rattle.std.proofs.Common.{◌≡◌, refl, true, false, Bool}
+use Rattle.std.specs.Str.{chars}
+use lib.Utf8.{encode}
+use Rattle.hol_terms.specs.Tm.{Tm}
+use Rattle.hol_terms.specs.Rules.{same_ty}
+use Rattle.hol_terms.specs.Tokens.{tokens}
+use Rattle.hol_terms.specs.Meaning.{applied, function, constant, fitted, apply, equation, connective, negation, quantified}
+use Rattle.hol_terms.specs.Reading.{types_at, dtype_at, type_at, typed_at, braces_at, atom_at, atoms_at, application_at, bound_at, body_at, binder_at, term_at, reading_of_term, Reading, reads, no_syntax, unknown, ill_typed}
+use Rattle.library_facts.specs.declared.facts.Fact.{Fact}
+use Rattle.library_facts.specs.declared.facts.Fact.TheVariants.{GROUPS}
+VARIANTS
+use Rattle.library_facts.specs.Facts.{TEXTS, fact_text}
+use Rattle.library_facts.proofs.BaseSignature.{base_signature}
+
+abbrev pub is_read : Reading Tm → Bool
+is_read (reads t) = true
+is_read (no_syntax p) = false
+is_read (unknown n p) = false
+is_read (ill_typed p) = false
+""" % WRITTEN_BY.replace("from the scripts of tools/library/", "from src/facts.rt")
 
 
 @dataclass(frozen=True)
@@ -150,25 +204,27 @@ def step(made, groups):
     return "    Step::Prove(\n%s    ),\n" % "".join("        %s,\n" % argument for argument in arguments)
 
 
-def source(all_made):
-    """The text of the tables' file, from what is made, in order."""
-    groups = {made.entry.name: made.entry.group for made in all_made if made.entry and made.entry.group}
-    tables = "".join(constants(made, groups) for made in all_made if made.table)
-    steps = "".join(step(made, groups) for made in all_made)
+def source(part, made, groups):
+    """The text of a part's file of tables, from what it makes, in order."""
+    tables = "".join(constants(one, groups) for one in made if one.table)
+    steps = "".join(step(one, groups) for one in made)
+    names = {group for group, _ in part.proved} | {groups[fact] for one in made if one.table for fact in one.table.facts}
+    uses = ", ".join(sorted(["Fact"] + [group + "Fact" for group in names]))
     return "%s%s\n// The definitions and the facts, in order.\npub(crate) static STEPS: [Step; %d] = [\n%s];\n" % (
-        HEAD, tables, len(all_made), steps)
+        HEAD.replace("TITLE", part.title[0].upper() + part.title[1:]).replace("GROUPS", uses), tables, len(made), steps)
 
 
-def fact_names(all_made):
-    """The group and the name of each fact, in order."""
-    return [(made.entry.group, made.entry.name) for made in all_made if made.number is None]
-
-
-def facts(all_made):
-    """The text of the list of facts."""
-    names = fact_names(all_made)
-    rows = "".join("    %s%s %s\n" % ("∷ " if i else "", *fact) for i, fact in enumerate(names))
-    return FACTS_HEAD.replace("VARIANTS\n", variants(all_made) + "\n") + rows + "    ∷ []\n"
+def lists(parts):
+    """The text of the lists of facts."""
+    head = LISTS_HEAD.replace("VARIANTS\n", variants([fact for part in parts for fact in part.proved]))
+    head = head.replace("GROUPS", ", ".join(dict.fromkeys(group for part in parts for group, _ in part.proved)))
+    text = [head]
+    for part in parts:
+        rows = "".join("    %s%s %s\n" % ("∷ " if i else "", *fact) for i, fact in enumerate(part.proved))
+        text.append("\n-- on %s\nabbrev pub %s : List Fact\n%s =\n%s    ∷ []\n" % (part.title, part.facts, part.facts, rows))
+    first = " ++ ".join(part.facts for part in parts if part.crate == FIRST)
+    text.append("\n-- of the whole first library\nabbrev pub base_facts : List Fact\nbase_facts = %s\n" % first)
+    return "".join(text)
 
 
 def lemma_name(made):
@@ -194,23 +250,26 @@ def proof(made, so_far, groups):
     return "%s%s\npub %s : Proves (base %d) %s %s %s\n%s = proves %s_agrees\n" % (table, agrees, lemma, so_far, taken, name, fact, lemma, name)
 
 
-def proofs(all_made):
-    """The text of the lemmas on the steps."""
-    groups = {made.entry.name: made.entry.group for made in all_made if made.entry and made.entry.group}
-    so_far, rows = 10, []
-    for made in all_made:
-        rows.append(proof(made, so_far, groups))
-        so_far += made.number is not None
-    return PROOFS_HEAD.replace("VARIANTS\n", variants(all_made)) + "".join(rows)
+def proofs(part, made, groups):
+    """The text of the lemmas on the steps of a part."""
+    so_far, rows = part.before, []
+    for one in made:
+        rows.append(proof(one, so_far, groups))
+        so_far += one.number is not None
+    named = dict.fromkeys([name for _, name in part.proved] + [fact for one in made if one.table for fact in one.table.facts])
+    used = [(groups[name], name) for name in named]
+    head = PROOFS_HEAD.replace("VARIANTS\n", variants(used))
+    if not any(one.number is not None and one.table for one in made):
+        head = head.replace(", IsTypeAt", "").replace(", new_type_at", "")
+    return head.replace("GROUPS", ", ".join(dict.fromkeys(group for group, _ in used))) + "".join(rows)
 
 
-def variants(all_made):
-    """The lines that import the names of the facts."""
-    names = fact_names(all_made)
+def variants(names):
+    """The lines that import the names of facts."""
     return "".join(
         "use Rattle.library_facts.specs.declared.facts.%sFact.TheVariants.{%s}\n"
         % (group, ", ".join(name for of, name in names if of == group))
-        for group in ("Logic", "Product", "Sum"))
+        for group in dict.fromkeys(group for group, _ in names))
 
 
 def fits(made, place_of):
@@ -223,12 +282,74 @@ def fits(made, place_of):
     return "(%s, %s)" % (premises, lemma_name(made))
 
 
-def answers(all_made):
-    """The text of the answers for the steps."""
-    place_of = {name: i for i, (_, name) in enumerate(fact_names(all_made))}
-    rows = "".join("(%s, " % fits(made, place_of) for made in all_made)
-    head = ANSWERS_HEAD.replace("LEMMAS", ", ".join(lemma_name(made) for made in all_made))
-    return head + rows + "tt" + ")" * len(all_made) + ANSWERS_TAIL
+def answers(part, made):
+    """The text of the answers for the steps of a part."""
+    known = [fact for earlier in part.earlier for fact in earlier.proved]
+    place_of = {name: i for i, (_, name) in enumerate(known + part.proved)}
+    rows = "".join("(%s, " % fits(one, place_of) for one in made)
+    on = ["c.requires." + name for name in part.lists] or ["(none_on _)"]
+    known_on = on.pop()
+    while on:
+        known_on = "(both_on %s %s)" % (on.pop(), known_on)
+    head = ANSWERS_HEAD.replace("LEMMAS_ON", {0: "none_on", 1: "all_on"}.get(len(part.lists), "both_on"))
+    head = head.replace("LEMMAS", ", ".join(lemma_name(one) for one in made)).replace("KNOWN", known_on).replace("all_on, ", "")
+    head = head.replace("BEFORE", str(part.before)).replace("CRATE", part.crate).replace("MODULE", module(part)).replace("NAME", part.name)
+    return head + rows + "tt" + ")" * len(made) + ANSWERS_TAIL.replace("FACTS", part.facts)
+
+
+def module(part):
+    """The name of the file of proofs about a part's tables."""
+    return part.name.capitalize() + "Tables"
+
+
+# The statements.
+
+
+def in_words(sentence):
+    """A sentence as a comment in a specification has it."""
+    proper = sentence.startswith(("Knaster", "Functor"))
+    return (sentence if proper else sentence[0].lower() + sentence[1:]).removesuffix(".")
+
+
+def by_group(stated):
+    found = {}
+    for (group, name), (sentence, text) in stated.items():
+        found.setdefault(group, []).append((name, sentence, text))
+    return found
+
+
+def group_imports(groups):
+    return "".join(
+        "use Rattle.library_facts.specs.declared.facts.%sFact.{%sFact}\n"
+        "use Rattle.library_facts.specs.declared.facts.%sFact.TheVariants.{%s}\n"
+        % (group, group, group, ", ".join(name for name, _, _ in facts)) for group, facts in groups.items())
+
+
+def statements(stated, subjects):
+    """The text of the specification of statements; subjects has what each group of facts is on."""
+    groups = by_group(stated)
+    text = [STATEMENTS_HEAD.replace("VARIANTS\n", group_imports(groups)).replace("GROUPS", ", ".join(groups))]
+    for group, facts in groups.items():
+        name = group.lower() + "_text"
+        text.append("\n-- %s\nabbrev pub %s : %sFact → Text\n" % (subjects[group], name, group))
+        text += ['-- %s\n%s %s = codes "%s"\n' % (in_words(sentence), name, fact, escaped(said)) for fact, sentence, said in facts]
+    cases = "".join("fact_text (%s fact) = %s_text fact\n" % (group, group.lower()) for group in groups)
+    return "".join(text) + STATEMENTS_TAIL.replace("CASES\n", cases, 1)
+
+
+def readings(stated):
+    """The text of the proofs that the statements read as terms."""
+    groups = by_group(stated)
+    head = READINGS_HEAD.replace("VARIANTS\n", group_imports(groups)).replace("GROUPS", ", ".join(groups))
+    text = [head.replace("TEXTS", ", ".join(group.lower() + "_text" for group in groups))]
+    for group, facts in groups.items():
+        name = group.lower()
+        text.append("\n%s_reads : (fact : %sFact) → is_read (reading_of_term base_signature (%s_text fact)) ≡ true\nunfolding %s\n" % (
+            name, group, name, COMPUTED))
+        text += ["%s_reads %s = refl\n" % (name, fact) for fact, _, _ in facts]
+    text.append("\npub written_out : (fact : Fact) → is_read (reading_of_term base_signature (fact_text fact)) ≡ true\n")
+    text += ["written_out (%s fact) = %s_reads fact\n" % (group, group.lower()) for group in groups]
+    return "".join(text)
 
 
 def tables_in(text):

@@ -158,8 +158,11 @@ class Proof:
     def disch(self, p, a):
         return self.rule("disch", self.formula(p), a)
 
-    def mp(self, a, b):
-        return self.rule("mp", a, b)
+    def mp(self, a, *premises):
+        """What an implication gives, from its premises in their order."""
+        for b in premises:
+            a = self.rule("mp", a, b)
+        return a
 
     def gen(self, variables, a):
         """The theorem generalised over variables, the last one first: `gen("x y", a)` is `!x. !y. ..`."""
@@ -251,6 +254,11 @@ class Proof:
     def anything(self, q, a):
         """q from F."""
         return self.spec(self.eq_mp(self.definition("F"), a), self.formula(q))
+
+    def induction(self, n, p, zero, step):
+        """`!n. p` for numbers, from p of zero, and p of the successor of n shown from p."""
+        rule = self.norm(self.by("NumInduction", r"\%s. %s" % (n, p)))
+        return self.mp(rule, zero, self.gen(n, self.disch(p, step)))
 
     def open(self, v, exists, a):
         """What is shown of v, from there being one: `exists` is assumed."""

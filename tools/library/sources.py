@@ -18,6 +18,12 @@ def base_lines():
     return [[unescaped(line) for line in re.findall(r'codes "(.*)"', part)] for part in (definitions, axioms)]
 
 
+def subjects():
+    """By group, what its facts are on, in words."""
+    found = re.findall(r"/// A (fact on [^\n]*)\.\n#\[derive[^\n]*\npub enum (\w+)Fact ", FACTS.read_text())
+    return {group: words.replace("fact on", "facts on", 1) for words, group in found}
+
+
 def stated_facts():
     """By group and name, the sentence that says a fact and its statement in canonical text: {("Logic", "Truth"): (..)}."""
     source = FACTS.read_text()

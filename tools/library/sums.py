@@ -2,6 +2,8 @@
 
 from .build import LIBRARY
 
+LIBRARY.begin("th_base", "sums", "sum_facts", "sums")
+
 fact = LIBRARY.fact
 makes_type = LIBRARY.makes_type
 

@@ -1,2 +1,3 @@
 pub mod BaseSignature
 pub mod FactsRead
+pub mod Unrefused

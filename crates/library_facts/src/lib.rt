@@ -3,4 +3,7 @@
 
 mod facts;
 
-pub use facts::{Fact, LogicFact, ProductFact, SumFact, fact_stmt};
+pub use facts::{
+    CountableFact, CsetFact, Fact, LogicFact, NumberFact, OrderFact, PathFact, ProductFact,
+    SumFact, fact_stmt,
+};

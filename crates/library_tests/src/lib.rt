@@ -1,4 +1,4 @@
-//! Tests of the first library (`th_base`). They stand in a crate of their own, since a crate is proved once more with its tests:
+//! Tests of the library (`th_base`, `th_num`, `th_count`). They stand in a crate of their own, since a crate is proved once more with its tests:
 //! here over libraries that are proved already.
 #![tactic(auto)]
 

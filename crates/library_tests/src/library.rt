@@ -1,15 +1,22 @@
 //! The library as it is built where there is memory.
 
+ghost use Rattle.std.specs.Prelude.{◌≡◌, IfOk};
+ghost use Rattle.hol_terms.specs.Base.{base};
+ghost use Rattle.script_core.specs.Shelves.{AreOn, ShelfHad};
+ghost use Rattle.library_facts.specs.Libraries.{base_facts, number_facts};
+
 use hol_kernel::{Kernel, Thm};
 use hol_text::print::print_term;
 use kernel_lines::start;
-use library_facts::{Fact, LogicFact, ProductFact, SumFact, fact_stmt};
+use library_facts::{
+    CountableFact, CsetFact, Fact, LogicFact, NumberFact, OrderFact, PathFact, ProductFact,
+    SumFact, fact_stmt,
+};
 use script_core::Shelf;
 use std::alloc::{AllocError, Global};
 use std::test::Fail;
-use th_base::build;
 
-// The facts of the library.
+// The facts of the first library.
 static FACTS: [Fact; 43] = [
     Fact::Logic(LogicFact::Truth),
     Fact::Logic(LogicFact::Extensionality),
@@ -71,18 +78,43 @@ fn is_proved(alloc: Global, shelf: &Shelf, fact: Fact) -> Result<bool, AllocErro
     }
 }
 
+// The kernel and the shelf with the first library.
 #[tactic(auto, using(crate::proofs::Shelves::had_none))]
-fn built(alloc: Global) -> Result<(Kernel, Shelf), AllocError> {
+fn first(alloc: Global) -> Result<(Kernel, Shelf), AllocError>
+    ensures defs { IfOk result (λ r. r.0.defs ≡ base 33) }
+    ensures base_facts { IfOk result (λ r. AreOn r.1 base_facts) }
+    ensures shelf { IfOk result (λ r. ShelfHad r.0 r.1) }
+{
     let mut kernel = start(alloc)?;
     let mut shelf = Shelf::new(alloc)?;
-    build(alloc, &mut kernel, &mut shelf)?;
+    th_base::build(alloc, &mut kernel, &mut shelf)?;
+    Ok((kernel, shelf))
+}
+
+// With numbers and path codes behind it.
+#[tactic(auto, using(library_steps::proofs::Taken::all_more))]
+fn with_numbers(alloc: Global) -> Result<(Kernel, Shelf), AllocError>
+    ensures defs { IfOk result (λ r. r.0.defs ≡ base 43) }
+    ensures base_facts { IfOk result (λ r. AreOn r.1 base_facts) }
+    ensures number_facts { IfOk result (λ r. AreOn r.1 number_facts) }
+    ensures shelf { IfOk result (λ r. ShelfHad r.0 r.1) }
+{
+    let (mut kernel, mut shelf) = first(alloc)?;
+    th_num::build(alloc, &mut kernel, &mut shelf)?;
+    Ok((kernel, shelf))
+}
+
+// And with countable sets.
+fn with_countable_sets(alloc: Global) -> Result<(Kernel, Shelf), AllocError> {
+    let (mut kernel, mut shelf) = with_numbers(alloc)?;
+    th_count::build(alloc, &mut kernel, &mut shelf)?;
     Ok((kernel, shelf))
 }
 
 #[test]
 fn each_fact_is_proved(rt: HostRuntime) -> Result<(), Fail> {
     let alloc = rt.alloc();
-    let (kernel, shelf) = built(alloc)?;
+    let (kernel, shelf) = first(alloc)?;
     assert_eq!(rt; kernel.defs().len(), 33);
     // The steps of the kernel that the start of `hbnf` takes.
     assert_eq!(rt; kernel.steps().len(), 37_564);
@@ -92,8 +124,67 @@ fn each_fact_is_proved(rt: HostRuntime) -> Result<(), Fail> {
     Ok(())
 }
 
+// Facts of the numbers.
+static NUMBER_FACTS: [Fact; 11] = [
+    Fact::Number(NumberFact::SucNotZero),
+    Fact::Number(NumberFact::SucInjective),
+    Fact::Number(NumberFact::NumInduction),
+    Fact::Number(NumberFact::RecZero),
+    Fact::Number(NumberFact::RecSuc),
+    Fact::Order(OrderFact::StrongInduction),
+    Fact::Path(PathFact::ConsNotZero),
+    Fact::Path(PathFact::ConsInjective),
+    Fact::Path(PathFact::BelowCons),
+    Fact::Path(PathFact::PathInduction),
+    Fact::Path(PathFact::PathRecursion),
+];
+
+#[test]
+fn numbers_are_built(rt: HostRuntime) -> Result<(), Fail> {
+    let alloc = rt.alloc();
+    let (kernel, shelf) = with_numbers(alloc)?;
+    assert_eq!(rt; kernel.defs().len(), 43);
+    assert_eq!(rt; kernel.steps().len(), 102_639);
+    for fact in &NUMBER_FACTS {
+        assert!(rt; is_proved(alloc, &shelf, *fact)?);
+    }
+    Ok(())
+}
+
+// Facts of countable sets, and the functor laws of their type.
+static COUNTABLE_FACTS: [Fact; 16] = [
+    Fact::Countable(CountableFact::CountableSubset),
+    Fact::Countable(CountableFact::CountableImage),
+    Fact::Countable(CountableFact::CountableUnion),
+    Fact::Countable(CountableFact::CountableUnit),
+    Fact::Countable(CountableFact::CountableBool),
+    Fact::Countable(CountableFact::CountableNum),
+    Fact::Countable(CountableFact::CountableProd),
+    Fact::Countable(CountableFact::CountableSum),
+    Fact::Countable(CountableFact::CountableOnType),
+    Fact::Cset(CsetFact::CsetMapId),
+    Fact::Cset(CsetFact::CsetMapComp),
+    Fact::Cset(CsetFact::CsetMapCong),
+    Fact::Cset(CsetFact::CsetSetMap),
+    Fact::Cset(CsetFact::CsetSetCount),
+    Fact::Cset(CsetFact::CsetRelComp),
+    Fact::Cset(CsetFact::CsetRelIn),
+];
+
+#[test]
+fn countable_sets_are_built(rt: HostRuntime) -> Result<(), Fail> {
+    let alloc = rt.alloc();
+    let (kernel, shelf) = with_countable_sets(alloc)?;
+    assert_eq!(rt; kernel.defs().len(), 49);
+    assert_eq!(rt; kernel.steps().len(), 162_811);
+    for fact in &COUNTABLE_FACTS {
+        assert!(rt; is_proved(alloc, &shelf, *fact)?);
+    }
+    Ok(())
+}
+
 // Statements, as they are printed.
-static STATEMENTS: [(Fact, &str); 3] = [
+static STATEMENTS: [(Fact, &str); 5] = [
     (
         Fact::Logic(LogicFact::ExcludedMiddle),
         "!x0:bool. x0 \\/ (~ x0)",
@@ -105,6 +196,14 @@ static STATEMENTS: [(Fact, &str); 3] = [
     (
         Fact::Sum(SumFact::InlNotInr),
         "!x0:'a. !x1:'b. ~ (inl{'a,'b} x0 = inr{'b,'a} x1)",
+    ),
+    (
+        Fact::Path(PathFact::ConsNotZero),
+        "!x0:num. !x1:num. ~ (num.cons x0 x1 = 0)",
+    ),
+    (
+        Fact::Cset(CsetFact::CsetMapComp),
+        "!x0:'a -> 'b. !x1:'b -> 'c. !x2:'a cset. cset.map{'b,'c} x1 (cset.map{'a,'b} x0 x2) = cset.map{'a,'c} (\\x3:'a. x1 (x0 x3)) x2",
     ),
 ];
 

@@ -33,6 +33,15 @@ last_at s v n fact x y f h l e d g a =
       none_after = subst (λ m. All (λ e. e.0 ≢ fact) (drop m s)) (sym (suc_of n h)) a;
     }
 
+-- so its theorem is that of the fact
+pub stated_at : (s : Shelved) (n : ℕ) (fact : Fact) (x y : Fact × Theorem) → AreStated s → 0 < n → n ≤ length s → x ≡ get_or s (n - 1) x → y ≡ get_or s (n - 1) y → y.0 ≡ fact
+    → IsFact fact x.1.sequent
+stated_at s n fact x y h f l e d g =
+    let below : n - 1 < length s = omega arith in
+    let same : x ≡ y = e ∙ get_or_default s (n - 1) x y below ∙ sym d in
+    let stated : IsFact x.0 x.1.sequent = subst (λ (p : Fact × Theorem). IsFact p.0 p.1.sequent) (sym e) (All-get_or (λ p. IsFact p.0 p.1.sequent) s (n - 1) x below h.all) in
+    subst (λ (q : Fact). IsFact q x.1.sequent) (ap (λ p. p.0) same ∙ g) stated
+
 pub known_there : (s : Shelved) (fact : Fact) → IsOn s fact → All (λ e. e.0 ≢ fact) s → ⊥
 known_there s fact h a = All-contains (λ e. e.0 ≢ fact) s (fact, h.th) a h.there refl
 

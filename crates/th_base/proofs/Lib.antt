@@ -1,5 +1,3 @@
-pub mod TableProofs
-pub mod Shown
-pub mod Defined
-pub mod Taken
-pub mod Computed
+pub mod LogicTables
+pub mod ProductsTables
+pub mod SumsTables

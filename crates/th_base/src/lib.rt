@@ -2,9 +2,6 @@
 #![tactic(auto)]
 
 mod building;
-mod closed;
-mod define;
-mod step;
 mod tables;
 
 pub use building::build;

@@ -1,0 +1,4 @@
+pub mod Taken
+pub mod Shown
+pub mod Defined
+pub mod Computed

@@ -1,5 +1,0 @@
-use Rattle.th_base.proofs.Shown.{had_grows}
-use Rattle.th_base.proofs.closed.prove.Goals as goal
-
-pub returns-in_err-th-clause-shelf : goal.returns-in_err-th-clause-shelf
-returns-in_err-th-clause-shelf c = had_grows _ _ _ c.requires.shelf c.fact_shown.ensures.grows

@@ -1,0 +1,2 @@
+pub mod CountableTables
+pub mod CsetsTables

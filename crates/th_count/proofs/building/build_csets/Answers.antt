@@ -1,0 +1,39 @@
+-- Written by `python3 tools/library.py write` from the scripts of tools/library/.
+use Rattle.std.proofs.Common.{refl}
+use Rattle.library_steps.proofs.Computed.{from_none, from_more}
+use Rattle.library_steps.proofs.Taken.{both_on, can_take, made_to, facts_to, base_is}
+use Rattle.th_count.proofs.CsetsTables.{cset_inhabited_shows, cset_abs_rep_proves, cset_rep_abs_proves, cset_countable_proves, cset_extensionality_proves, cset_member_proves, constant_45, constant_46, cset_map_member_proves, cset_map_is_proves, cset_map_exists_proves, cset_map_id_proves, cset_map_comp_proves, constant_47, cset_set_is_rep_proves, cset_set_member_proves, cset_set_map_proves, cset_set_count_proves, cset_map_cong_proves, constant_48, cset_maps_relate_each_proves, cset_maps_related_proves, cset_related_pairs_proves, cset_rel_firsts_proves, cset_rel_seconds_proves, cset_rel_of_pairs_proves, cset_rel_in_proves, cset_rel_between_proves, cset_rel_split_proves, cset_rel_forwards_proves, cset_rel_backwards_proves, cset_rel_comp_proves}
+use Rattle.th_count.proofs.building.build_csets.Goals as goal
+
+pub take_steps-requires-clause-base : goal.take_steps-requires-clause-base
+take_steps-requires-clause-base c = base_is 44 _ refl c.requires.defs
+
+pub take_steps-requires-clause-shelf : goal.take_steps-requires-clause-shelf
+take_steps-requires-clause-shelf c = c.requires.shelf
+
+pub take_steps-requires-clause-fit : goal.take_steps-requires-clause-fit
+take_steps-requires-clause-fit c = can_take c.requires.defs (both_on c.requires.base_facts (both_on c.requires.number_facts (both_on c.requires.path_facts c.requires.countable_facts))) (record { all = ((refl, cset_inhabited_shows), ((from_none, cset_abs_rep_proves), ((from_none, cset_rep_abs_proves), ((from_more 117 refl (from_more 118 refl from_none), cset_countable_proves), ((from_more 1 refl (from_more 117 refl from_none), cset_extensionality_proves), ((from_more 118 refl from_none, cset_member_proves), ((refl, constant_45), ((refl, constant_46), ((from_more 111 refl (from_more 119 refl (from_more 121 refl from_none)), cset_map_member_proves), ((from_more 122 refl (from_more 120 refl from_none), cset_map_is_proves), ((from_more 122 refl from_none, cset_map_exists_proves), ((from_more 18 refl (from_more 123 refl from_none), cset_map_id_proves), ((from_more 124 refl (from_more 122 refl (from_more 123 refl from_none)), cset_map_comp_proves), ((refl, constant_47), ((from_none, cset_set_is_rep_proves), ((from_none, cset_set_member_proves), ((from_more 127 refl (from_more 122 refl from_none), cset_set_map_proves), ((from_more 119 refl (from_more 127 refl from_none), cset_set_count_proves), ((from_more 127 refl (from_more 122 refl (from_more 123 refl from_none)), cset_map_cong_proves), ((refl, constant_48), ((from_more 122 refl (from_more 124 refl from_none), cset_maps_relate_each_proves), ((from_more 132 refl from_none, cset_maps_related_proves), ((from_more 114 refl (from_more 119 refl (from_more 101 refl (from_more 118 refl from_none))), cset_related_pairs_proves), ((from_more 29 refl (from_more 30 refl from_none), cset_rel_firsts_proves), ((from_more 29 refl (from_more 30 refl from_none), cset_rel_seconds_proves), ((from_more 123 refl (from_more 135 refl (from_more 136 refl from_none)), cset_rel_of_pairs_proves), ((from_more 137 refl (from_more 134 refl (from_more 133 refl (from_more 127 refl from_none))), cset_rel_in_proves), ((from_more 16 refl (from_more 133 refl from_none), cset_rel_between_proves), ((from_more 138 refl (from_more 127 refl (from_more 139 refl from_none)), cset_rel_split_proves), ((from_none, cset_rel_forwards_proves), ((from_none, cset_rel_backwards_proves), ((from_more 140 refl (from_more 141 refl (from_more 142 refl from_none)), cset_rel_comp_proves), tt)))))))))))))))))))))))))))))))) })
+
+pub returns-clause-defs : goal.returns-clause-defs
+returns-clause-defs c = made_to c.in_ok-take_steps.ensures.defs c.requires.defs refl
+
+pub returns-clause-cset_facts : goal.returns-clause-cset_facts
+returns-clause-cset_facts c = facts_to c.in_ok-take_steps.ensures.facts refl
+
+pub returns-clause-shelf : goal.returns-clause-shelf
+returns-clause-shelf c = c.take_steps.ensures.shelf
+
+pub returns-clause-more : goal.returns-clause-more
+returns-clause-more c = c.take_steps.ensures.more
+
+pub returns-clause-keeps : goal.returns-clause-keeps
+returns-clause-keeps c = c.take_steps.ensures.keeps
+
+pub returns-in_err-take_steps-clause-shelf : goal.returns-in_err-take_steps-clause-shelf
+returns-in_err-take_steps-clause-shelf c = c.take_steps.ensures.shelf
+
+pub returns-in_err-take_steps-clause-more : goal.returns-in_err-take_steps-clause-more
+returns-in_err-take_steps-clause-more c = c.take_steps.ensures.more
+
+pub returns-in_err-take_steps-clause-keeps : goal.returns-in_err-take_steps-clause-keeps
+returns-in_err-take_steps-clause-keeps c = c.take_steps.ensures.keeps

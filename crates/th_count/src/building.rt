@@ -1,0 +1,70 @@
+//! The building of countable sets and their type.
+
+ghost use Rattle.std.specs.Prelude.{◌≡◌, OnOk};
+ghost use Rattle.hol_terms.specs.Base.{base};
+ghost use Rattle.script_core.specs.Shelves.{AreOn, ShelfHad};
+ghost use Rattle.library_steps.specs.Building.{Keeps, Extends};
+ghost use Rattle.library_facts.specs.Libraries.{base_facts, number_facts, path_facts, countable_facts, cset_facts};
+
+use crate::tables::{countable, csets};
+use hol_kernel::Kernel;
+use library_steps::take_steps;
+use script_core::Shelf;
+use std::alloc::{AllocError, Global};
+
+/// Builds the part on countable sets.
+fn build_countable(alloc: Global, k: &mut Kernel, s: &mut Shelf) -> Result<(), AllocError>
+    requires defs { k.old.defs ≡ base 43 }
+    requires base_facts { AreOn s.old base_facts }
+    requires number_facts { AreOn s.old number_facts }
+    requires path_facts { AreOn s.old path_facts }
+    requires shelf { ShelfHad k.old s.old }
+    ensures defs { OnOk result (k.new.defs ≡ base 44) }
+    ensures countable_facts { OnOk result (AreOn s.new countable_facts) }
+    ensures shelf { ShelfHad k.new s.new }
+    ensures more { Extends s.old s.new }
+    ensures keeps { Keeps k.old k.new }
+{
+    take_steps(alloc, k, s, &countable::STEPS)?;
+    Ok(())
+}
+
+/// Builds the part on the type of countable sets.
+fn build_csets(alloc: Global, k: &mut Kernel, s: &mut Shelf) -> Result<(), AllocError>
+    requires defs { k.old.defs ≡ base 44 }
+    requires base_facts { AreOn s.old base_facts }
+    requires number_facts { AreOn s.old number_facts }
+    requires path_facts { AreOn s.old path_facts }
+    requires countable_facts { AreOn s.old countable_facts }
+    requires shelf { ShelfHad k.old s.old }
+    ensures defs { OnOk result (k.new.defs ≡ base 49) }
+    ensures cset_facts { OnOk result (AreOn s.new cset_facts) }
+    ensures shelf { ShelfHad k.new s.new }
+    ensures more { Extends s.old s.new }
+    ensures keeps { Keeps k.old k.new }
+{
+    take_steps(alloc, k, s, &csets::STEPS)?;
+    Ok(())
+}
+
+/// Builds countable sets and their type: makes the base definitions from the forty-fourth to the forty-ninth in a kernel that has
+/// exactly those before them, and puts the facts on countable sets and their type on the shelf, which has those of the libraries
+/// before. What was on the shelf still is, and the kernel has the theorem of each fact there. The one error is want of memory; the
+/// kernel and the shelf then still have what they had.
+pub fn build(alloc: Global, k: &mut Kernel, s: &mut Shelf) -> Result<(), AllocError>
+    requires defs { k.old.defs ≡ base 43 }
+    requires base_facts { AreOn s.old base_facts }
+    requires number_facts { AreOn s.old number_facts }
+    requires path_facts { AreOn s.old path_facts }
+    requires shelf { ShelfHad k.old s.old }
+    ensures defs { OnOk result (k.new.defs ≡ base 49) }
+    ensures countable_facts { OnOk result (AreOn s.new countable_facts) }
+    ensures cset_facts { OnOk result (AreOn s.new cset_facts) }
+    ensures shelf { ShelfHad k.new s.new }
+    ensures more { Extends s.old s.new }
+    ensures keeps { Keeps k.old k.new }
+{
+    build_countable(alloc, k, s)?;
+    build_csets(alloc, k, s)?;
+    Ok(())
+}

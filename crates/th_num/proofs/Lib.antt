@@ -1,0 +1,2 @@
+pub mod NumbersTables
+pub mod PathsTables

@@ -1,0 +1,7 @@
+//! Numbers with their recursion and order, doubling and path codes, proved by tables from the base definitions and the first library.
+#![tactic(auto)]
+
+mod building;
+mod tables;
+
+pub use building::build;
