@@ -1,5 +1,6 @@
 -- Base definitions by their places, and the theorems that make types.
 use Rattle.std.proofs.Common.{◌≡◌, ℕ, ◌+◌, true, sym, ap, ◌∙◌, subst, List, [], ◌∷◌, ◌++◌, Option, Some, None, IsSome, IsSomeAnd, slice_get, refl}
+use Rattle.std.proofs.lemmas.List.{append-nil, append_assoc}
 use Rattle.hol_terms.specs.Name.{Name}
 use Rattle.hol_terms.specs.Tm.{Tm}
 use Rattle.hol_terms.specs.Definition.{Definition, const_def, type_def}
@@ -66,25 +67,34 @@ made_next ds es place table n a e f h g =
     ∙ base-push place d (subst (λ (b : Sequent). slice_get base_definitions place ≡ Some (type_def n (predicate_of b))) (shown_is ds place table n a e h g) h.next)
 
 pub grows_keeps : (k l : State) → Grows k l → Keeps k l
-grows_keeps k l g = record { steps = g.steps; theorems = g.keeps }
+grows_keeps k l g = record { more = []; defs = g.defs ∙ sym (append-nil k.defs); steps = g.steps; theorems = g.keeps }
 
 pub keeps_itself : (k : State) → Keeps k k
-keeps_itself k = record { steps = λ i a e. e; theorems = λ th h. h }
+keeps_itself k = record { more = []; defs = sym (append-nil k.defs); steps = λ i a e. e; theorems = λ th h. h }
 
 pub keeps_same : (k l : State) → l ≡ k → Keeps k l
 keeps_same k l e = subst (λ (m : State). Keeps k m) (sym e) (keeps_itself k)
 
 pub keeps_on : (k l m : State) → Keeps k l → Keeps l m → Keeps k m
-keeps_on k l m g h = record { steps = λ i a e. h.steps i a (g.steps i a e); theorems = λ th e. h.theorems th (g.theorems th e) }
+keeps_on k l m g h = record {
+  more = g.more ++ h.more;
+  defs = h.defs ∙ ap (λ (ds : List Definition). ds ++ h.more) g.defs ∙ append_assoc k.defs g.more h.more;
+  steps = λ i a e. h.steps i a (g.steps i a e);
+  theorems = λ th e. h.theorems th (g.theorems th e);
+}
 
-pub step_keeps : (k l : State) (ds : List Definition) (th : Theorem) (a : Sequent) → IsNewStep k ds l th a → KeepsAll k l → Keeps k l
-step_keeps k l ds th a h g = record {
+pub step_keeps : (k l : State) (d : Definition) (th : Theorem) (a : Sequent) → IsNewStep k (k.defs ++ d ∷ []) l th a → KeepsAll k l → Keeps k l
+step_keeps k l d th a h g = record {
+  more = d ∷ [];
+  defs = ap (λ (m : State). m.defs) h.state;
   steps = λ i b e. subst (λ (m : State). slice_get m.steps i ≡ Some b) (sym h.state) (slice_get-append k.steps (a ∷ []) i b e);
   theorems = g;
 }
 
 pub type_keeps : (k l m : State) (n : Name) (p : Tm) (x y : Theorem) → Grows k l → IsNewType l n p m x y → KeepsAll l m → Keeps k m
 type_keeps k l m n p x y f h g = record {
+  more = type_def n p ∷ [];
+  defs = ap (λ (q : State). q.defs) h.state ∙ ap (λ (ds : List Definition). ds ++ type_def n p ∷ []) f.defs;
   steps = λ i b e. subst (λ (q : State). slice_get q.steps i ≡ Some b) (sym h.state) (slice_get-append l.steps _ i b (f.steps i b e));
   theorems = λ th e. g th (f.keeps th e);
 }

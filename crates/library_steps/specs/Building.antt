@@ -13,8 +13,10 @@ use Rattle.library_steps.specs.Closed.{Proves, ShowsElement}
 use Rattle.library_steps.specs.declared.step.Step.{Step}
 use Rattle.library_steps.specs.declared.step.Step.TheVariants.{Constant, NewType, Prove}
 
--- the kernel still has its steps and its theorems
+-- the kernel still has its definitions, in front, its steps and its theorems
 pub record Keeps (k l : State) : Type 0 where
+  pub more : List Definition
+  pub defs : l.defs ≡ k.defs ++ more
   pub steps : (i : ℕ) (a : Sequent) → slice_get k.steps i ≡ Some a → slice_get l.steps i ≡ Some a
   pub theorems : (th : Theorem) → Has k th → Has l th
 
