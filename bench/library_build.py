@@ -18,7 +18,7 @@ PROGRAM = """//! Builds parts of the library.
 ghost use Rattle.std.specs.Prelude.{◌≡◌, [], IfOk};
 ghost use Rattle.hol_terms.specs.Base.{base};
 ghost use Rattle.script_core.specs.Shelves.{AreOn, ShelfHad};
-ghost use Rattle.library_facts.specs.Libraries.{base_facts, number_facts};
+ghost use Rattle.library_facts.specs.Libraries.{base_facts, number_facts, path_facts};
 
 use hol_kernel::Kernel;
 use kernel_lines::start;
@@ -45,6 +45,7 @@ fn with_numbers(alloc: Global) -> Result<(Kernel, Shelf), AllocError>
     ensures defs { IfOk result (λ r. r.0.defs ≡ base 43) }
     ensures base_facts { IfOk result (λ r. AreOn r.1 base_facts) }
     ensures number_facts { IfOk result (λ r. AreOn r.1 number_facts) }
+    ensures path_facts { IfOk result (λ r. AreOn r.1 path_facts) }
     ensures shelf { IfOk result (λ r. ShelfHad r.0 r.1) }
 {
     let (mut kernel, mut shelf) = first(alloc)?;
