@@ -59,14 +59,15 @@ fn with_countable_sets(alloc: Global) -> Result<Kernel, AllocError> {
     Ok(kernel)
 }
 
-fn built(alloc: Global, parts: usize) -> Result<Kernel, AllocError> {
-    match parts {
-        0 => start(alloc),
-        1 => {
+// The words of the command line begin with the program's name.
+fn built(alloc: Global, words: usize) -> Result<Kernel, AllocError> {
+    match words {
+        0 | 1 => start(alloc),
+        2 => {
             let (kernel, _shelf) = first(alloc)?;
             Ok(kernel)
         }
-        2 => {
+        3 => {
             let (kernel, _shelf) = with_numbers(alloc)?;
             Ok(kernel)
         }
