@@ -1,3 +1,5 @@
 pub mod Shelves
 pub mod GivenValues
 pub mod NewTypes
+pub mod Cases
+pub mod ListKernel

@@ -1,10 +1,13 @@
 -- What tables are given, and a kernel with one more type.
-use Rattle.std.specs.Prelude.{◌≡◌, List, [], ◌∷◌, ◌++◌, codes}
+use Rattle.std.specs.Prelude.{◌≡◌, List, [], ◌∷◌, ◌++◌, All, codes}
+use Rattle.std.specs.Borrow.{Bor}
 use Rattle.hol_terms.specs.Name.{Name}
 use Rattle.hol_terms.specs.Tm.{Tm, FreeVar}
 use Rattle.hol_terms.specs.Definition.{Definition, type_def, bool_ty}
 use Rattle.hol_terms.specs.Base.{base}
+use Rattle.hol_terms.specs.Text.{Text}
 use Rattle.script_core.specs.Steps.{Registers}
+use Rattle.script_core.specs.Ready.{Fits}
 
 -- nothing beside facts
 abbrev pub nothing : Registers
@@ -19,3 +22,7 @@ pub record HasType (ds : List Definition) : Type 0 where
   pub name : Name
   pub predicate : Tm
   pub is : ds ≡ base 10 ++ type_def name predicate ∷ []
+
+-- each table can be run over the definitions, from nothing
+pub record AllFit (ds : List Definition) (cases : List (Bor Text × Bor Text)) : Type 0 where
+  pub all : All (λ c. Fits ds [] nothing c.0.now) cases

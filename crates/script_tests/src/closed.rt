@@ -6,10 +6,11 @@ ghost use Rattle.hol_kernel.specs.State.{Has, Grows};
 ghost use Rattle.kernel_lines.specs.Bases.{HasBase};
 ghost use Rattle.script_core.specs.Shelves.{AreOn, ShelfHad};
 ghost use Rattle.script_core.specs.Ready.{Fits, Gives};
-ghost use Rattle.script_tests.specs.Closed.{nothing};
+ghost use Rattle.script_tests.specs.Closed.{nothing, AllFit};
 
 use hol_kernel::{Kernel, Thm};
 use hol_text::print::push_term;
+use kernel_lines::start;
 use library_facts::Fact;
 use script_core::{Given, Shelf, run_table};
 use std::alloc::{AllocError, Global};
@@ -46,9 +47,11 @@ pub(crate) fn run_closed(
 
 // The last theorem of a table that takes nothing.
 pub(crate) fn derived(alloc: Global, k: &mut Kernel, table: &str) -> Result<Thm, AllocError>
-    requires base { k.old.defs ≡ base 10 }
-    requires fits { Fits (base 10) [] nothing table.now }
-    ensures { OnOk result (k.new.defs ≡ base 10) }
+    requires base { HasBase k.old.defs }
+    requires fits { Fits k.old.defs [] nothing table.now }
+    ensures exact { IfOk result (λ th. Gives k.old.defs [] nothing table.now th.sequent) }
+    ensures has { IfOk result (λ th. Has k.new th) }
+    ensures grows { Grows k.old k.new }
 {
     let shelf = Shelf::new(alloc)?;
     let th = run_closed(alloc, k, &shelf, &[], table)?;
@@ -72,4 +75,44 @@ pub(crate) fn sequent_text(alloc: Global, th: &Thm) -> Result<String, AllocError
 pub(crate) fn says(alloc: Global, th: &Thm, want: &str) -> Result<bool, AllocError> {
     let text = sequent_text(alloc, th)?;
     Ok(text.as_str() == want)
+}
+
+// Whether the last theorem of the table has the sequent that the text is.
+fn gives(alloc: Global, k: &mut Kernel, table: &str, want: &str) -> Result<bool, AllocError>
+    requires base { HasBase k.old.defs }
+    requires fits { Fits k.old.defs [] nothing table.now }
+    ensures { OnOk result (k.new.defs ≡ k.old.defs) }
+{
+    let th = derived(alloc, k, table)?;
+    says(alloc, &th, want)
+}
+
+// The first table whose last theorem has another sequent.
+#[tactic(auto, using(crate::proofs::Cases::case_lemmas))]
+pub(crate) fn first_wrong(
+    alloc: Global,
+    k: &mut Kernel,
+    cases: &'static [(&'static str, &'static str)],
+) -> Result<Option<&'static str>, AllocError>
+    requires base { HasBase k.old.defs }
+    requires fit { AllFit k.old.defs cases.now }
+{
+    for (table, want) in cases {
+        if !gives(alloc, k, table, want)? {
+            return Ok(Some(*table));
+        }
+    }
+    Ok(None)
+}
+
+// The same over the first ten base definitions alone.
+#[tactic(auto, using(crate::proofs::Cases::case_lemmas))]
+pub(crate) fn first_wrong_of_base(
+    alloc: Global,
+    cases: &'static [(&'static str, &'static str)],
+) -> Result<Option<&'static str>, AllocError>
+    requires { AllFit (base 10) cases.now }
+{
+    let mut k = start(alloc)?;
+    first_wrong(alloc, &mut k, cases)
 }

@@ -1,29 +1,25 @@
 //! What the definition of a type says, as lines of tables.
 
-ghost use Rattle.std.specs.Prelude.{◌≡◌, [], None, IfOk, OnOk, codes};
+ghost use Rattle.std.specs.Prelude.{◌≡◌, None, OnOk, codes};
 ghost use Rattle.hol_terms.specs.Base.{base};
 ghost use Rattle.hol_kernel.specs.State.{Has};
 ghost use Rattle.hol_kernel.specs.Fault.{type_fault};
-ghost use Rattle.script_core.specs.Ready.{Fits};
-ghost use Rattle.script_tests.specs.Closed.{nothing, HasType};
+ghost use Rattle.script_tests.specs.Closed.{HasType};
 
-use crate::closed::{run_closed, says};
+use crate::closed::{derived, first_wrong};
 use hol_kernel::{Kernel, Thm};
 use kernel_lines::start;
-use script_core::Shelf;
 use std::alloc::{AllocError, Global};
 use std::test::Fail;
 
-// What the definition of T says.
-fn truth_said(alloc: Global, k: &mut Kernel) -> Result<Thm, AllocError>
-    requires { k.old.defs ≡ base 10 }
-    ensures has { IfOk result (λ th. Has k.new th) }
-    ensures defs { OnOk result (k.new.defs ≡ base 10) }
-{
-    let shelf = Shelf::new(alloc)?;
-    let th = run_closed(alloc, k, &shelf, &[], "def 0\n")?;
-    Ok(th)
-}
+// Tables behind that definition, and the sequents of their last theorems.
+static CASES: [(&str, &str); 2] = [
+    ("type_abs 10\n", "|- u.abs (u.rep [a:u]) = [a:u]"),
+    (
+        "type_rep 10\n",
+        "|- (T = [r:bool]) = (u.rep (u.abs [r:bool]) = [r:bool])",
+    ),
+];
 
 // Defines a type behind the base definitions.
 fn define(alloc: Global, k: &mut Kernel, a: &Thm) -> Result<(), AllocError>
@@ -36,62 +32,20 @@ fn define(alloc: Global, k: &mut Kernel, a: &Thm) -> Result<(), AllocError>
     Ok(())
 }
 
-// The last theorem of a table over that type's definition.
-fn derived(alloc: Global, k: &mut Kernel, table: &str) -> Result<Thm, AllocError>
-    requires there { HasType k.old.defs }
-    requires fits { Fits k.old.defs [] nothing table.now }
-    ensures { OnOk result (HasType k.new.defs) }
-{
-    let shelf = Shelf::new(alloc)?;
-    let th = run_closed(alloc, k, &shelf, &[], table)?;
-    Ok(th)
-}
-
-fn is_abs_told(alloc: Global, k: &mut Kernel) -> Result<bool, AllocError>
-    requires { HasType k.old.defs }
-    ensures { OnOk result (HasType k.new.defs) }
-{
-    let th = derived(alloc, k, "type_abs 10\n")?;
-    says(alloc, &th, "|- u.abs (u.rep [a:u]) = [a:u]")
-}
-
-fn is_rep_told(alloc: Global, k: &mut Kernel) -> Result<bool, AllocError>
-    requires { HasType k.old.defs }
-{
-    let th = derived(alloc, k, "type_rep 10\n")?;
-    says(
-        alloc,
-        &th,
-        "|- (T = [r:bool]) = (u.rep (u.abs [r:bool]) = [r:bool])",
-    )
-}
-
-fn are_told(alloc: Global, k: &mut Kernel) -> Result<bool, AllocError>
-    requires { HasType k.old.defs }
-{
-    Ok(is_abs_told(alloc, k)? && is_rep_told(alloc, k)?)
-}
-
-// Defines the type where it may be, and says whether it is told.
-fn is_told_behind(alloc: Global, k: &mut Kernel) -> Result<bool, AllocError>
-    requires { k.old.defs ≡ base 10 }
-{
-    let a = truth_said(alloc, k)?;
-    if k.may_define_type("u", &a).is_some() {
-        return Ok(false);
-    }
-    define(alloc, k, &a)?;
-    are_told(alloc, k)
-}
-
-fn is_told(alloc: Global) -> Result<bool, AllocError> {
+// The first table whose last theorem has another sequent, or a word where the type may not be defined.
+fn first_wrong_behind(alloc: Global) -> Result<Option<&'static str>, AllocError> {
     let mut k = start(alloc)?;
-    is_told_behind(alloc, &mut k)
+    let a = derived(alloc, &mut k, "def 0\n")?;
+    if k.may_define_type("u", &a).is_some() {
+        return Ok(Some("no definition"));
+    }
+    define(alloc, &mut k, &a)?;
+    first_wrong(alloc, &mut k, &CASES)
 }
 
 #[test]
 fn a_new_type_is_told(rt: HostRuntime) -> Result<(), Fail> {
-    let is_told = is_told(rt.alloc())?;
-    assert!(rt; is_told);
+    let wrong = first_wrong_behind(rt.alloc())?;
+    assert_eq!(rt; wrong, None);
     Ok(())
 }

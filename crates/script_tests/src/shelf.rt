@@ -5,7 +5,7 @@ ghost use Rattle.hol_terms.specs.Base.{base};
 ghost use Rattle.hol_kernel.specs.State.{Has};
 ghost use Rattle.script_core.specs.Shelves.{IsFact, IsOn, ShelfHad};
 
-use crate::closed::{run_closed, says};
+use crate::closed::{derived, run_closed, says};
 use hol_kernel::{Kernel, Thm};
 use kernel_lines::start;
 use library_facts::{Fact, LogicFact};
@@ -26,8 +26,7 @@ fn truth(alloc: Global, k: &mut Kernel) -> Result<Thm, AllocError>
     ensures has { IfOk result (λ th. Has k.new th) }
     ensures defs { OnOk result (k.new.defs ≡ base 10) }
 {
-    let shelf = Shelf::new(alloc)?;
-    let th = run_closed(alloc, k, &shelf, &[], TRUTH)?;
+    let th = derived(alloc, k, TRUTH)?;
     Ok(th)
 }
 

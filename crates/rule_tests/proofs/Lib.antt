@@ -1,3 +1,0 @@
-pub mod SampleLemmas
-pub mod Statements
-pub mod ReductionLemmas

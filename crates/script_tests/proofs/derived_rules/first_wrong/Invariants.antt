@@ -1,6 +1,0 @@
-use Rattle.std.proofs.Common.{◌≡◌}
-use Rattle.hol_terms.specs.Base.{base}
-use Rattle.script_tests.proofs.derived_rules.first_wrong.Given as goal
-
-abbrev pub invariant-loop-case : goal.invariant-loop-case
-invariant-loop-case l = l.k.defs ≡ base 10

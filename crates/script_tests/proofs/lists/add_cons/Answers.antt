@@ -1,0 +1,11 @@
+use Rattle.script_tests.proofs.ListKernel.{base_at, nil_base, side_at, constant_is, cons_said}
+use Rattle.script_tests.proofs.lists.add_cons.Goals as goal
+
+pub add_constant-requires-clause-base : goal.add_constant-requires-clause-base
+add_constant-requires-clause-base c = base_at c.requires nil_base
+
+pub add_constant-requires-clause-side : goal.add_constant-requires-clause-side
+add_constant-requires-clause-side c = side_at c.requires cons_said
+
+pub returns : goal.returns
+returns c = λ e. constant_is c.requires cons_said (c.in_ok-is_there.ensures e)
