@@ -1,10 +1,9 @@
 -- Tables that can all be run.
-use Rattle.std.proofs.Common.{◌≡◌, refl, sym, subst, Bool, true, ◌&&◌, [], ◌∷◌, List, All, is_some}
+use Rattle.std.proofs.Common.{◌≡◌, sym, subst, Bool, true, ◌&&◌, [], ◌∷◌, List, All, is_some}
 use Rattle.std.proofs.lemmas.List.Elements.{All-nil, All-cons, All-get_or}
 use Rattle.std.specs.Prelude.{ℕ, ◌<◌, get_or, length}
 use Rattle.std.specs.Borrow.{Bor}
 use Rattle.hol_terms.specs.Definition.{Definition}
-use Rattle.hol_terms.specs.Base.{base}
 use Rattle.hol_terms.specs.Text.{Text}
 use Rattle.hol_terms.proofs.Tables.{and_left, and_right}
 use Rattle.kernel_lines.specs.Bases.{HasBase}

@@ -1,7 +1,6 @@
 -- What a table is given.
-use Rattle.std.proofs.Common.{◌≡◌, ◌∙◌, refl, sym, ap, subst, [], ◌∷◌, List, All, Option, Some, IsSome, codes}
+use Rattle.std.proofs.Common.{◌≡◌, refl, sym, subst, [], ◌∷◌, List, All, IsSome, codes}
 use Rattle.std.proofs.lemmas.List.Elements.{All-nil, All-cons}
-use Rattle.std.specs.Borrow.{Bor}
 use Rattle.hol_terms.specs.Ty.{Ty}
 use Rattle.hol_terms.specs.Tm.{Tm, tm_free}
 use Rattle.hol_terms.specs.Signature.{IsTyOver, IsOver}

@@ -6,10 +6,9 @@ use Rattle.hol_terms.specs.Ty.{Ty, ty_var}
 use Rattle.hol_terms.specs.Tm.{Tm}
 use Rattle.hol_terms.specs.Definition.{Definition, const_def, type_def, alpha, bool_ty}
 use Rattle.hol_terms.specs.Notation.{◌⇒◌, ◌·◌, ix, lam}
-use Rattle.hol_terms.specs.Logic.{const_eq, const_some, const_T}
+use Rattle.hol_terms.specs.Logic.{const_some, const_T}
 use Rattle.hol_terms.specs.Base.{base}
 use Rattle.hol_terms.specs.Sequent.{Sequent, seq, eq_tm, argument, IsEq}
-use Rattle.hol_terms.specs.Signature.{IsOver}
 use Rattle.hol_terms.specs.Text.{Text}
 use Rattle.hol_kernel.specs.State.{State, Theorem}
 use Rattle.hol_kernel.specs.Fault.{predicate_of}
@@ -20,7 +19,7 @@ use Rattle.script_core.specs.Tables.{table_sequent}
 use Rattle.script_core.specs.Ready.{Fits, Gives}
 use Rattle.script_core.proofs.Closed.{closed_table, base_is}
 use Rattle.script_tests.specs.Closed.{nothing}
-use Rattle.script_tests.specs.Lists.{IsSide, IsConstantOf, list_of, constant, with_list, with_nil, with_cons, with_set, with_map}
+use Rattle.script_tests.specs.Lists.{IsSide, IsConstantOf, list_of, with_list, with_nil, with_cons, with_set, with_map}
 
 some_same : (a b : Sequent) → Some a ≡ Some b → a ≡ b
 some_same a b e = cc

@@ -1,9 +1,5 @@
 //! Normal forms after a number of contractions.
 
-ghost use Rattle.std.specs.Prelude.{IfOk, OnOk};
-ghost use Rattle.kernel_lines.specs.Bases.{HasBase};
-ghost use Rattle.script_tests.specs.Lists.{IsSide};
-
 use crate::closed::says;
 use crate::lists::side;
 use hol_conv::beta::beta_norm;
