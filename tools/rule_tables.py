@@ -3,9 +3,9 @@
 Each table is a short script below over a small kernel of its own: the script names terms and applies rules, and each rule becomes a
 line. The kernel here follows the ten rules of the project's kernel, on sequents whose hypotheses are sets, so each line is checked
 when its table is made, and the last sequent is compared with the stated one. The script writes the tables as static data of
-crates/nd_rules/src/ and, for the tables over given theorems, as lists of crates/nd_rules/proofs/. With the word `check` it writes
-nothing, and fails where a file differs from what it would write; with the word `count` it prints how many steps of the kernel each
-rule takes. Nothing rests on it: each table is proved. Run it from the top of the repository; it uses the standard library alone.
+crates/nd_rules/src/. With the word `check` it writes nothing, and fails where a file differs from what it would write; with the word
+`count` it prints how many steps of the kernel each rule takes, and with `show NAME` a table with what each line makes. Nothing rests
+on it: each table is proved. Run it from the top of the repository; it uses the standard library alone.
 """
 
 import pathlib
@@ -377,10 +377,15 @@ class Table:
         return th
 
     def once(self, make):
-        """What a script gives, derived once in a table."""
+        """What a script gives: what is kept, or else derived once in a table."""
         if make not in self.made:
             self.made[make] = make(self)
         return self.made[make]
+
+    def at_type(self, make, ty):
+        """What a script gives, at a type for 'a."""
+        th = self.once(make)
+        return th if ty == A else self.inst_type(th, {"a": ty})
 
     def at(self, make, pairs):
         """What a script gives, at other terms."""
@@ -388,26 +393,24 @@ class Table:
         return self.inst(th, pairs) if any(v != t for v, t in pairs.items()) else th
 
 
-# What the base says, each script a table of its own. Scripts take what they stand on from others by `once`.
+# What the rules keep, each script a table of its own over those before it. Scripts take what they stand on from others by `once`.
+
+
+def cut(t, a, b):
+    """A |- s and s |- u give A |- u"""
+    return t.eq_mp(t.deduct(a, b), a)
+
+
+def turned(t, a):
+    """A |- s = u gives A |- u = s"""
+    ty = type_of(a.left())
+    there = t.at_type(symmetry, ty)
+    return t.eq_mp(t.inst(there, {var("x", ty): t.side("Left", a), var("y", ty): t.side("Right", a)}), a)
 
 
 def truth_holds(t):
     """|- T"""
     return t.eq_mp(t.sym(t.definition("Truth")), t.refl(lam(p, p)))
-
-
-def is_true(t):
-    """|- p = (p = T)"""
-    right = t.deduct(t.assume(p), t.once(truth_holds))
-    left = t.eq_mp(t.sym(t.assume(eq(p, truth))), t.once(truth_holds))
-    return t.deduct(left, right)
-
-
-def true_is(t):
-    """|- (p = T) = p"""
-    right = t.deduct(t.assume(p), t.once(truth_holds))
-    left = t.eq_mp(t.sym(t.assume(eq(p, truth))), t.once(truth_holds))
-    return t.deduct(right, left)
 
 
 def symmetry(t):
@@ -418,17 +421,21 @@ def symmetry(t):
     return t.deduct(back, there)
 
 
+def is_true(t):
+    """|- p = (p = T)"""
+    right = t.deduct(t.assume(p), t.once(truth_holds))
+    left = t.eq_mp(turned(t, t.assume(eq(p, truth))), t.once(truth_holds))
+    return t.deduct(left, right)
+
+
+def true_is(t):
+    """|- (p = T) = p"""
+    return turned(t, t.once(is_true))
+
+
 def conj_means(t):
     """|- (p /\\ q) = ((\\f. f p q) = (\\f. f T T))"""
     return t.unfolded("Conj", p, q)
-
-
-def both_true(t):
-    """|- ((p /\\ q) = (T /\\ T)) = (p /\\ q)"""
-    both = t.at(conj_means, {p: truth, q: truth})
-    holds = t.eq_mp(t.sym(both), t.refl(both.right()[2]))
-    same = t.eq_mp(t.at(is_true, {p: conj(truth, truth)}), holds)
-    return t.trans(t.comb(t.refl(app(equality(BOOL), conj(p, q))), same), t.at(true_is, {p: conj(p, q)}))
 
 
 def taken(t, chosen):
@@ -440,8 +447,8 @@ def taken(t, chosen):
     given = t.applied(t.beta(app(take, p)), q)
     read = t.trans(spread, given)
     both = t.comb(pairs, t.refl(take))
-    one = t.trans(t.trans(t.sym(read), both), t.inst(read, {p: truth, q: truth}))
-    return t.eq_mp(t.sym(one), t.once(truth_holds))
+    one = t.trans(t.trans(turned(t, read), both), t.inst(read, {p: truth, q: truth}))
+    return t.eq_mp(t.inst(t.once(true_is), {p: chosen}), one)
 
 
 def conj_first(t):
@@ -454,30 +461,45 @@ def conj_second(t):
     return taken(t, q)
 
 
-def conj_both(t):
-    """p, q |- p /\\ q"""
+def conj_with(t):
+    """p |- q = (p /\\ q)"""
     one = t.eq_mp(t.once(is_true), t.assume(p))
     other = t.eq_mp(t.at(is_true, {p: q}), t.assume(q))
     pairs = t.abs(f2, t.comb(t.comb(t.refl(f2), one), other))
-    return t.eq_mp(t.sym(t.once(conj_means)), pairs)
-
-
-def conj_with(t):
-    """p |- q = (p /\\ q)"""
-    return t.deduct(t.once(conj_second), t.once(conj_both))
+    both = t.eq_mp(turned(t, t.once(conj_means)), pairs)
+    return t.deduct(t.once(conj_second), both)
 
 
 def imp_means(t):
     """|- (p ==> q) = (p = (p /\\ q))"""
     means = t.unfolded("Imp", p, q)
-    x, y = var("x", A), var("y", A)
-    at_bool = t.inst_type(t.once(symmetry), {"a": BOOL})
+    at_bool = t.at_type(symmetry, BOOL)
     return t.trans(means, t.inst(at_bool, {var("x", BOOL): conj(p, q), var("y", BOOL): p}))
 
 
 def means_imp(t):
     """|- (p = (p /\\ q)) = (p ==> q)"""
-    return t.sym(t.once(imp_means))
+    return turned(t, t.once(imp_means))
+
+
+def disch(t, s, a):
+    """A |- q gives (A without p) |- p ==> q"""
+    both = t.eq_mp(t.at(conj_with, {p: s, q: a.concl}), a)
+    same = t.deduct(t.at(conj_first, {p: s, q: a.concl}), both)
+    return t.eq_mp(t.at(means_imp, {p: s, q: a.concl}), same)
+
+
+def imp_applied(t):
+    """p |- (p ==> q) = q"""
+    both = t.eq_mp(t.eq_mp(t.once(imp_means), t.assume(imp(p, q))), t.assume(p))
+    there = cut(t, both, t.once(conj_second))
+    return t.deduct(disch(t, p, t.assume(q)), there)
+
+
+def mp(t, a, b):
+    """A |- p ==> q and B |- p give A, B |- q"""
+    s, u = a.concl[1][2], a.concl[2]
+    return t.eq_mp(cut(t, b, t.at(imp_applied, {p: s, q: u})), a)
 
 
 def not_means(t):
@@ -487,44 +509,41 @@ def not_means(t):
 
 def means_not(t):
     """|- (p ==> F) = (~ p)"""
-    return t.sym(t.once(not_means))
+    return turned(t, t.once(not_means))
 
 
-# Rules on theorems whose hypotheses are known.
-
-
-def mp(t, a, b):
-    s, u = a.concl[1][2], a.concl[2]
-    both = t.eq_mp(t.eq_mp(t.at(imp_means, {p: s, q: u}), a), b)
-    return cut(t, both, t.at(conj_second, {p: s, q: u}))
-
-
-def cut(t, a, b):
-    """A |- s and s |- u give A |- u"""
-    return t.eq_mp(t.deduct(a, b), a)
-
-
-def disch(t, s, a):
-    both = t.eq_mp(t.at(conj_with, {p: s, q: a.concl}), a)
-    same = t.deduct(t.at(conj_first, {p: s, q: a.concl}), both)
-    return t.eq_mp(t.at(means_imp, {p: s, q: a.concl}), same)
+f, x = var("f", fun(A, BOOL)), var("x", A)
 
 
 def all_means(t):
-    """|- (!) f = (f = (\\x. T)) at bool"""
-    return t.inst_type(t.unfolded("All", var("f", fun(A, BOOL))), {"a": BOOL})
+    """|- (!) f = (f = (\\x. T))"""
+    return t.unfolded("All", f)
+
+
+def all_fold(t):
+    """|- (f = (\\x. T)) = (!) f"""
+    return turned(t, t.once(all_means))
+
+
+def all_applied(t):
+    """(!) f |- f x"""
+    same = t.comb(t.eq_mp(t.once(all_means), t.assume(app(quantifier("all", A), f))), t.refl(x))
+    one = t.trans(same, t.beta(t.side("Right", same)))
+    return t.eq_mp(t.at(true_is, {p: t.side("Left", one)}), one)
 
 
 def gen(t, v, a):
+    """A |- p gives A |- !v. p"""
     same = t.abs(v, t.eq_mp(t.at(is_true, {p: a.concl}), a))
-    return t.eq_mp(t.sym(t.at(all_means, {var("f", fun(BOOL, BOOL)): lam(v, a.concl)})), same)
+    fold = t.at_type(all_fold, v[2])
+    return t.eq_mp(t.inst(fold, {var("f", fun(v[2], BOOL)): t.side("Left", same)}), same)
 
 
 def spec(t, v, a):
-    """A |- !x. s gives A |- s with v for x"""
-    same = t.comb(t.eq_mp(t.at(all_means, {var("f", fun(BOOL, BOOL)): a.concl[2]}), a), t.refl(v))
-    one = t.trans(t.trans(t.sym(t.beta(t.side("Left", same))), same), t.beta(t.side("Right", same)))
-    return t.eq_mp(t.sym(one), t.once(truth_holds))
+    """A |- !x. p gives A |- p with v for x"""
+    holds = t.at_type(all_applied, v[2])
+    case = cut(t, a, t.inst(holds, {var("f", fun(v[2], BOOL)): a.concl[2], var("x", v[2]): v}))
+    return t.eq_mp(t.beta(case.concl), case)
 
 
 def disj_means(t):
@@ -535,7 +554,7 @@ def disj_means(t):
 def either(t, chosen):
     holds = mp(t, t.assume(imp(chosen, r)), t.assume(chosen))
     shown_all = gen(t, r, disch(t, imp(p, r), disch(t, imp(q, r), holds)))
-    return t.eq_mp(t.sym(t.once(disj_means)), shown_all)
+    return t.eq_mp(turned(t, t.once(disj_means)), shown_all)
 
 
 def disj_first(t):
@@ -559,39 +578,70 @@ def cases(t):
     return mp(t, mp(t, at_r, first), second)
 
 
-# Name in code, script and stated sequent of each.
+def ex_means(t):
+    """|- (?) f = (!q. (!x. f x ==> q) ==> q)"""
+    return t.unfolded("Ex", f)
+
+
+def each_of(v):
+    return forall(x, imp(app(f, x), v))
+
+
+def ex_shown(t):
+    """f x |- (?) f"""
+    each = t.assume(each_of(q))
+    case = mp(t, spec(t, x, each), t.assume(app(f, x)))
+    return t.eq_mp(turned(t, t.once(ex_means)), gen(t, q, disch(t, each.concl, case)))
+
+
+def ex_applied(t):
+    """(?) f |- (!x. f x ==> q) = q"""
+    whole = t.eq_mp(t.once(ex_means), t.assume(app(quantifier("ex", A), f)))
+    there = mp(t, spec(t, q, whole), t.assume(each_of(q)))
+    return t.deduct(gen(t, x, disch(t, app(f, x), t.assume(q))), there)
+
+
+# Name in code, script and stated sequent of each, in the order of proving.
 FACTS = [
+    (truth_holds, [], truth),
     (symmetry, [], eq(eq(var("x", A), var("y", A)), eq(var("y", A), var("x", A)))),
     (is_true, [], eq(p, eq(p, truth))),
     (true_is, [], eq(eq(p, truth), p)),
-    (both_true, [], eq(eq(conj(p, q), conj(truth, truth)), conj(p, q))),
+    (conj_means, [], eq(conj(p, q), eq(lam(f2, app(f2, p, q)), lam(f2, app(f2, truth, truth))))),
     (conj_first, [conj(p, q)], p),
     (conj_second, [conj(p, q)], q),
     (conj_with, [p], eq(q, conj(p, q))),
     (imp_means, [], eq(imp(p, q), eq(p, conj(p, q)))),
     (means_imp, [], eq(eq(p, conj(p, q)), imp(p, q))),
+    (imp_applied, [p], eq(imp(p, q), q)),
     (not_means, [], eq(neg(p), imp(p, connective("F")))),
     (means_not, [], eq(imp(p, connective("F")), neg(p))),
+    (all_means, [], eq(app(quantifier("all", A), f), eq(f, lam(x, truth)))),
+    (all_fold, [], eq(eq(f, lam(x, truth)), app(quantifier("all", A), f))),
+    (all_applied, [app(quantifier("all", A), f)], app(f, x)),
+    (disj_means, [], eq(disj(p, q), forall(r, imp(imp(p, r), imp(imp(q, r), r))))),
     (disj_first, [p], disj(p, q)),
     (disj_second, [q], disj(p, q)),
     (cases, [disj(conj(p, r), conj(q, r))], r),
+    (ex_means, [], eq(app(quantifier("ex", A), f), forall(q, imp(each_of(q), q)))),
+    (ex_shown, [app(f, x)], app(quantifier("ex", A), f)),
+    (ex_applied, [app(quantifier("ex", A), f)], eq(each_of(q), q)),
 ]
 
 
-# The rules: name, given terms, given theorems, the facts that stand behind them, a script over these, and the stated sequent.
+# The rules: name, given terms, given theorems, what they take of what is kept, a script over these, and the stated sequent.
 # The given terms are s, t and u; A, B and C stand for hypotheses.
 
 s, t_, u = (var(n, BOOL) for n in ("s", "t", "u"))
 hyp_a, hyp_b, hyp_c = (var(n, BOOL) for n in "ABC")
 ANY = ("var", "any")
 left, right = var("s", ANY), var("t", ANY)
+pred, elem = var("s", fun(ANY, BOOL)), var("t", ANY)
+all_of, ex_of = (app(quantifier(n, ANY), pred) for n in ("all", "ex"))
 
 
-def conj_i_rule(t, a, b, is_true_fact, both_true_fact):
-    one = t.eq_mp(t.inst(is_true_fact, {p: s}), a)
-    other = t.eq_mp(t.inst(is_true_fact, {p: t_}), b)
-    both = t.comb(t.comb(t.refl(connective("conj")), one), other)
-    t.eq_mp(t.inst(both_true_fact, {p: s, q: t_}), both)
+def conj_i_rule(t, a, b, with_fact):
+    t.eq_mp(cut(t, a, t.inst(with_fact, {p: s, q: t_})), b)
 
 
 def cut_rule(t, a, fact):
@@ -600,7 +650,12 @@ def cut_rule(t, a, fact):
 
 def under_rule(t, a, with_fact, first_fact):
     both = t.eq_mp(t.inst(with_fact, {p: s, q: t_}), a)
-    t.deduct(t.inst(first_fact, {p: s, q: t_}), both)
+    return t.deduct(t.inst(first_fact, {p: s, q: t_}), both)
+
+
+def disch_rule(t, a, with_fact, first_fact, imp_fact):
+    same = under_rule(t, a, with_fact, first_fact)
+    t.eq_mp(t.inst(imp_fact, {p: s, q: t_}), same)
 
 
 def merge_rule(t, a, b, c, cases_fact):
@@ -612,13 +667,8 @@ def equal_rule(t, a, fact):
     t.eq_mp(t.inst(fact, {p: s}), a)
 
 
-def disch_rule(t, a, imp_fact):
-    t.eq_mp(t.inst(imp_fact, {p: s, q: t_}), a)
-
-
-def mp_rule(t, a, b, imp_fact, second_fact):
-    both = t.eq_mp(t.eq_mp(t.inst(imp_fact, {p: s, q: t_}), a), b)
-    cut(t, both, t.inst(second_fact, {p: s, q: t_}))
+def mp_rule(t, a, b, fact):
+    t.eq_mp(cut(t, b, t.inst(fact, {p: s, q: t_})), a)
 
 
 def sym_rule(t, a, fact):
@@ -626,9 +676,57 @@ def sym_rule(t, a, fact):
     t.eq_mp(t.inst(there, {var("x", ANY): left, var("y", ANY): right}), a)
 
 
+def back(t, fact, a):
+    """|- q = p from |- p = q"""
+    x, y = var("x", BOOL), var("y", BOOL)
+    there = t.side("Left", a), t.side("Right", a)
+    return t.eq_mp(t.inst(t.inst_type(fact, {"a": BOOL}), {x: there[0], y: there[1]}), a)
+
+
+def lambdas_rule(t, a, true_fact):
+    t.abs(elem, t.eq_mp(t.inst(true_fact, {p: s}), a))
+
+
+def fold_rule(t, a, fold_fact):
+    t.eq_mp(t.inst(t.inst_type(fold_fact, {"a": ANY}), {var("f", fun(ANY, BOOL)): pred}), a)
+
+
+def at_element(t, fact):
+    pairs = {var("f", fun(ANY, BOOL)): pred, var("x", ANY): elem}
+    return t.inst(t.inst_type(fact, {"a": ANY}), pairs)
+
+
+def spec_rule(t, a, case, fact):
+    t.eq_mp(case, cut(t, a, at_element(t, fact)))
+
+
+def ex_i_rule(t, a, case, sym_fact, fact):
+    cut(t, t.eq_mp(back(t, sym_fact, case), a), at_element(t, fact))
+
+
+def implied_rule(t, a, case, sym_fact, with_fact, first_fact, imp_fact):
+    c = t.side("Right", case)
+    both = t.eq_mp(t.inst(with_fact, {p: c, q: u}), a)
+    same = t.deduct(t.inst(first_fact, {p: c, q: u}), both)
+    implied = t.eq_mp(t.inst(imp_fact, {p: c, q: u}), same)
+    there = t.comb(t.comb(t.refl(connective("imp")), back(t, sym_fact, case)), t.refl(u))
+    t.eq_mp(there, implied)
+
+
+def choose_rule(t, a, each, fact):
+    pairs = {var("f", fun(ANY, BOOL)): pred, q: u}
+    t.eq_mp(cut(t, a, t.inst(t.inst_type(fact, {"a": ANY}), pairs)), each)
+
+
+def subst_rule(t, a, b, from_case, to_case, sym_fact):
+    same = t.comb(t.refl(pred), a)
+    t.eq_mp(t.trans(t.trans(back(t, sym_fact, from_case), same), to_case), b)
+
+
 A_HYP, B_HYP, C_HYP = [hyp_a], [hyp_b], [hyp_c]
+EACH = forall(elem, imp(app(pred, elem), u))
 RULES = [
-    ("conj_i", [s, t_], [(A_HYP, s), (B_HYP, t_)], [is_true, both_true], conj_i_rule, (A_HYP + B_HYP, conj(s, t_))),
+    ("conj_i", [s, t_], [(A_HYP, s), (B_HYP, t_)], [conj_with], conj_i_rule, (A_HYP + B_HYP, conj(s, t_))),
     ("conj_l", [s, t_], [(A_HYP, conj(s, t_))], [conj_first], cut_rule, (A_HYP, s)),
     ("conj_r", [s, t_], [(A_HYP, conj(s, t_))], [conj_second], cut_rule, (A_HYP, t_)),
     ("disj_l", [s, t_], [(A_HYP, s)], [disj_first], cut_rule, (A_HYP, disj(s, t_))),
@@ -644,11 +742,32 @@ RULES = [
     ),
     ("not_i", [s], [(A_HYP, imp(s, connective("F")))], [means_not], equal_rule, (A_HYP, neg(s))),
     ("not_e", [s], [(A_HYP, neg(s))], [not_means], equal_rule, (A_HYP, imp(s, connective("F")))),
-    ("disch", [s, t_], [(A_HYP, eq(s, conj(s, t_)))], [means_imp], disch_rule, (A_HYP, imp(s, t_))),
-    ("mp", [s, t_], [(A_HYP, imp(s, t_)), (B_HYP, s)], [imp_means, conj_second], mp_rule, (A_HYP + B_HYP, t_)),
+    ("disch", [s, t_], [(A_HYP + [s], t_)], [conj_with, conj_first, means_imp], disch_rule, (A_HYP, imp(s, t_))),
+    ("mp", [s, t_], [(A_HYP, imp(s, t_)), (B_HYP, s)], [imp_applied], mp_rule, (A_HYP + B_HYP, t_)),
     ("sym", [left, right], [(A_HYP, eq(left, right))], [symmetry], sym_rule, (A_HYP, eq(right, left))),
     ("eqt_i", [s], [(A_HYP, s)], [is_true], equal_rule, (A_HYP, eq(s, truth))),
     ("eqt_e", [s], [(A_HYP, eq(s, truth))], [true_is], equal_rule, (A_HYP, s)),
+    ("lambdas", [elem, s], [(A_HYP, s)], [is_true], lambdas_rule, (A_HYP, eq(lam(elem, s), lam(elem, truth)))),
+    ("fold", [elem, pred], [(A_HYP, eq(pred, lam(elem, truth)))], [all_fold], fold_rule, (A_HYP, all_of)),
+    ("spec", [pred, elem], [(A_HYP, all_of), ([], eq(app(pred, elem), u))], [all_applied], spec_rule, (A_HYP, u)),
+    ("ex_i", [pred, elem], [(A_HYP, u), ([], eq(app(pred, elem), u))], [symmetry, ex_shown], ex_i_rule, (A_HYP, ex_of)),
+    (
+        "implied",
+        [elem, pred, u],
+        [(A_HYP + [s], u), ([], eq(app(pred, elem), s))],
+        [symmetry, conj_with, conj_first, means_imp],
+        implied_rule,
+        (A_HYP, imp(app(pred, elem), u)),
+    ),
+    ("choose", [elem, pred, u], [(A_HYP, ex_of), (B_HYP, EACH)], [ex_applied], choose_rule, (A_HYP + B_HYP, u)),
+    (
+        "subst",
+        [pred],
+        [(A_HYP, eq(left, right)), (B_HYP, s), ([], eq(app(pred, left), s)), ([], eq(app(pred, right), u))],
+        [symmetry],
+        subst_rule,
+        (A_HYP + B_HYP, u),
+    ),
 ]
 
 
@@ -660,7 +779,9 @@ def checked(name, table, hyps, concl):
 
 
 def fact_table(script, hyps, concl):
-    table = Table()
+    before = FACTS[: [row[0] for row in FACTS].index(script)]
+    table = Table((), [(fact_hyps, fact_concl) for _, fact_hyps, fact_concl in before])
+    table.made = {row[0]: th for row, th in zip(before, table.given)}
     if script(table).place != table.thms - 1:
         raise ValueError("%s ends before its last line" % script.__name__)
     return checked(script.__name__, table, hyps, concl)
@@ -702,17 +823,18 @@ def code_line(line):
     return "Line::%s(%s::%s(%s))" % (sort, made, kind, ", ".join(code_args(kind, args)))
 
 
-def short(text):
-    return text if len(text) <= 100 else text[:98] + ".."
+def static(name, table, about):
+    out = ["// `%s`" % about, "pub(crate) static %s: [Line; %d] = [" % (name.upper(), len(table.lines))]
+    return out + ["    %s," % code_line(line) for line in table.lines] + ["];"]
 
 
-def static(name, table):
-    out = ["pub(crate) static %s: [Line; %d] = [" % (name.upper(), len(table.lines))]
+def show(name, table):
+    """Prints a table with what each of its lines makes."""
+    print(name)
     places = {"Term": table.terms - sum(l[0] == "Term" for l in table.lines), "Thm": table.thms - sum(l[0] == "Thm" for l in table.lines)}
     for line in table.lines:
-        out += ["    // %d: %s" % (places[line[0]], short(line[3])), "    " + code_line(line) + ","]
+        print("%4d %-4s %-44s %s" % (places[line[0]], line[0].lower(), code_line(line).split("(", 1)[1][:-1].split("::", 1)[1], line[3]))
         places[line[0]] += 1
-    return out + ["];"]
 
 
 def enums_used(tables):
@@ -724,21 +846,37 @@ def enums_used(tables):
 def data_file(about, named):
     out = ["// " + HEAD, "//! " + about, "", enums_used([table for _, table in named])]
     for name, table in named:
-        out += [""] + static(name, table)
+        last = list(table.inferred.values())[-1]
+        out += [""] + static(name, table, statement(last))
     return "\n".join(out) + "\n"
+
+
+def kept_file(facts):
+    """The tables of what is kept, in the order of proving, and the places of what the rules take."""
+    taken = {f for row in RULES for f in row[3]}
+    out = [data_file("The tables of what the rules keep, each over all those before it.", facts).rstrip("\n")]
+    places = ["// " + HEAD, "//! The places of what the rules take of what they keep."]
+    for place, (script, hyps, concl) in enumerate(FACTS):
+        if script in taken:
+            stated = statement(Theorem(place, hyps, concl))
+            places += ["", "/// `%s`" % stated, "pub(crate) const %s: usize = %d;" % (script.__name__.upper(), place)]
+    return "\n".join(out) + "\n", "\n".join(places) + "\n"
 
 
 def files():
     facts = [(script.__name__, fact_table(script, hyps, concl)) for script, hyps, concl in FACTS]
     rules = [(row[0], rule_table(*row)) for row in RULES]
+    tables, places = kept_file(facts)
     return {
-        "src/fact_tables.rt": data_file("The tables of the facts behind the rules.", facts),
-        "src/rule_tables.rt": data_file("The tables of the rules, over given terms, given theorems and facts.", rules),
+        "src/kept_tables.rt": tables,
+        "src/places.rt": places,
+        "src/rule_tables.rt": data_file("The tables of the rules, over given terms, given theorems and what is kept.", rules),
     }
 
 
-# The rules whose functions run several tables, each with its facts.
-SEVERAL = {"disj_e": ["under", "under", "merge"], "disch": ["under", "disch"]}
+# The rules whose functions run several tables, or conversions of two steps each.
+SEVERAL = {"disj_e": ["under", "under", "merge"], "gen": ["lambdas", "fold"], "choose": ["implied", "lambdas", "fold", "choose"]}
+CONVERSIONS = {"spec": 1, "ex_i": 1, "choose": 1, "subst": 2}
 
 
 def steps(table):
@@ -747,18 +885,24 @@ def steps(table):
 
 
 def count():
-    sizes = {script.__name__: steps(fact_table(script, hyps, concl)) for script, hyps, concl in FACTS}
+    print("kept", sum(steps(fact_table(*row)) for row in FACTS))
     rows = {row[0]: row for row in RULES}
-    names = [name for name in list(rows) + ["disj_e"] if name not in ("under", "merge")]
+    parts = {run for runs in SEVERAL.values() for run in runs}
+    names = sorted(set(rows) - parts | set(SEVERAL))
     for name in names:
-        runs = SEVERAL.get(name, [name])
-        own = sum(steps(rule_table(*rows[run])) for run in runs)
-        print(name, own + sum(sizes[f.__name__] for run in runs for f in rows[run][3]))
+        own = sum(steps(rule_table(*rows[run])) for run in SEVERAL.get(name, [name]))
+        print(name, own + 2 * CONVERSIONS.get(name, 0))
 
 
 def main(words):
     if words == ["count"]:
         count()
+        return
+    if words[:1] == ["show"]:
+        tables = [(row[0].__name__, fact_table(*row)) for row in FACTS] + [(row[0], rule_table(*row)) for row in RULES]
+        for name, table in tables:
+            if not words[1:] or name in words[1:]:
+                show(name, table)
         return
     for path, text in files().items():
         path = CRATE / path

@@ -4,8 +4,7 @@ use Rattle.std.proofs.lemmas.Bool.Decides.{nat_tests}
 use Rattle.hol_terms.specs.Ty.{Ty}
 use Rattle.hol_terms.specs.Tm.{Tm, tm_index, tm_free, tm_const, tm_comb, tm_abs, FreeVar}
 use Rattle.hol_terms.specs.Typing.{tm_type}
-use Rattle.hol_terms.specs.Notation.{◌⇒◌, ◌·◌}
-use Rattle.hol_terms.specs.Definition.{bool_ty}
+use Rattle.hol_terms.specs.Notation.{◌·◌}
 use Rattle.hol_terms.specs.Binding.{tm_bind, tm_inst, has_free, var_eq}
 use Rattle.hol_terms.specs.Loose.{IsClosedAt}
 use Rattle.hol_terms.specs.Sequent.{union}
@@ -15,11 +14,10 @@ use Rattle.hol_terms.proofs.Opened.{var_self}
 use Rattle.hol_kernel.specs.Ascending.{Ascends}
 use Rattle.hol_kernel.proofs.Ascending.{union_ascends}
 use Rattle.hol_kernel.proofs.Members.{union_has, same_list}
-use Rattle.hol_conv.specs.Reduction.{shift, put, reduct}
+use Rattle.hol_conv.specs.Reduction.{shift, put}
 use Rattle.hol_conv.proofs.Contracting.{shift_closed, none_left, none_right}
 use Rattle.nd_rules.specs.Connectives.{imp_tm}
-use Rattle.nd_rules.specs.Binders.{case_of}
-use Rattle.nd_rules.specs.Quantifiers.{all_body, all_means, ex_body, ex_means, each_case}
+use Rattle.nd_rules.specs.Quantifiers.{each_case}
 
 -- hypotheses joined with none
 in_none : (t : Tm) (hs : List Tm) → Contains [] t → Contains hs t
@@ -40,13 +38,6 @@ put_none k u (tm_free v) h = refl
 put_none k u (tm_const c ts t) h = refl
 put_none k u (tm_comb f x) h = λ i. tm_comb (put_none k u f h.0 i) (put_none k u x h.1 i)
 put_none k u (tm_abs t b) h = ap (tm_abs t) (put_none (k + 1) u b h)
-
-pub closed_above : (k : ℕ) (t : Tm) → IsClosedAt k t → IsClosedAt (k + 1) t
-closed_above k (tm_index i t) h = omega arith
-closed_above k (tm_free v) h = tt
-closed_above k (tm_const c ts t) h = tt
-closed_above k (tm_comb f x) h = (closed_above k f h.0, closed_above k x h.1)
-closed_above k (tm_abs t b) h = closed_above (k + 1) b h
 
 -- a variable that isn't there is bound nowhere
 pub bind_none : (k : ℕ) (v : FreeVar) (t : Tm) → has_free v t ≡ false → tm_bind k v t ≡ t
@@ -71,18 +62,12 @@ filled_inst k v u (tm_const d ts t) c h = refl
 filled_inst k v u (tm_comb f x) c h = λ i. tm_comb (filled_inst k v u f c h.0 i) (filled_inst k v u x c h.1 i)
 filled_inst k v u (tm_abs t b) c h = ap (tm_abs t) (filled_inst (k + 1) v u b c h)
 
--- what a quantifier's definition reduces to
-pub all_reduct : (a : Ty) (p : Tm) → tm_type p ≡ a ⇒ bool_ty → IsClosedAt 0 p → reduct (all_body a) p ≡ all_means a p
-all_reduct a p t c = rw (shift_closed 0 0 p c, t) refl
-
-pub ex_reduct : (a : Ty) (p : Tm) → IsClosedAt 0 p → reduct (ex_body a) p ≡ ex_means a p
-ex_reduct a p c = rw (shift_closed 2 0 p c) refl
-
--- what holds of all conclusions holds of this one
-pub ex_case : (a : Ty) (p q : Tm) → IsClosedAt 0 p → IsClosedAt 0 q → case_of (ex_means a p) q ≡ imp_tm (each_case a p q) q
-ex_case a p q c d = rw (put_none 1 q p (closed_above 0 p c), shift_closed 1 0 q d, shift_closed 0 0 q d) refl
-
 -- a case with a variable, generalised
 pub each_bound : (v : FreeVar) (p q : Tm) → has_free v p ≡ false → has_free v q ≡ false
     → tm_comb (const_all v.ty) (lambda v (imp_tm (p · tm_free v) q)) ≡ each_case v.ty p q
 each_bound v p q f g = rw (bind_none 0 v p f, bind_none 0 v q g, var_self v) refl
+
+pub each_is : (v : FreeVar) (x p q r : Tm) → x ≡ tm_free v → q ≡ r → has_free v p ≡ false → has_free v r ≡ false
+    → tm_comb (const_all v.ty) (lambda v (imp_tm (tm_comb p x) q)) ≡ each_case (tm_type x) p r
+each_is v x p q r e d f g =
+    (λ i. tm_comb (const_all v.ty) (lambda v (imp_tm (tm_comb p (e i)) (d i)))) ∙ each_bound v p r f g ∙ ap (λ t. each_case (tm_type t) p r) (sym e)

@@ -43,3 +43,10 @@ joined a b c ha hc = same_list (union (union b c) a) (union (union a b) c) (unio
       (λ n. ⊎_elim (λ o. inr o) (λ o. inl ((union_has b c u).1 (inl o))) ((union_has a b u).0 n))
       (λ n. inl ((union_has b c u).1 (inr n))) ((union_has (union a b) c u).0 m)),
 ))
+
+-- joined the other way round
+pub exchanged : (a b : List Tm) → Ascends a → Ascends b → union b a ≡ union a b
+exchanged a b ha hb = same_list (union b a) (union a b) (union_ascends b a ha) (union_ascends a b hb) (λ u. (
+  λ m. (union_has a b u).1 (⊎_elim (λ n. inr n) (λ n. inl n) ((union_has b a u).0 m)),
+  λ m. (union_has b a u).1 (⊎_elim (λ n. inr n) (λ n. inl n) ((union_has a b u).0 m)),
+))

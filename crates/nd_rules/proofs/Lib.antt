@@ -1,5 +1,5 @@
+pub mod Keeping
 pub mod Hypotheses
-pub mod Rules
-pub mod BinderLemmas
-pub mod BinderSteps
-pub mod BinderCases
+pub mod Shapes
+mod BinderLemmas
+mod BinderCases

@@ -1,6 +1,9 @@
 -- What the rules read off conclusions.
 use Rattle.std.specs.Prelude.{◌≡◌, []}
-use Rattle.hol_terms.specs.Tm.{Tm, tm_comb}
+use Rattle.hol_terms.specs.Ty.{Ty}
+use Rattle.hol_terms.specs.Tm.{Tm, tm_comb, tm_abs}
+use Rattle.hol_terms.specs.Notation.{◌⇒◌}
+use Rattle.hol_terms.specs.Opening.{body_of}
 use Rattle.hol_terms.specs.Typing.{tm_type, fun_ty}
 use Rattle.hol_terms.specs.Signature.{Signature, IsOver}
 use Rattle.hol_terms.specs.Definition.{bool_ty}
@@ -39,3 +42,19 @@ pub record AreSides (sig : Signature) (p s t : Tm) : Type 0 where
   pub over_first : IsOver sig [] s
   pub over_second : IsOver sig [] t
   pub typed : tm_type t ≡ tm_type s
+
+-- `q (\x. b)`, where q takes predicates on the type
+pub record IsQuantified (a : Ty) (e : Tm) : Type 0 where
+  pub applied : e ≡ tm_comb (function e) (argument e)
+  pub abstraction : argument e ≡ tm_abs a (body_of (argument e))
+  pub typed : tm_type (function e) ≡ (a ⇒ bool_ty) ⇒ bool_ty
+
+-- a predicate on the type, an abstraction
+pub record IsPredicate (sig : Signature) (a : Ty) (p : Tm) : Type 0 where
+  pub is : p ≡ tm_abs a (body_of p)
+  pub over : IsOver sig [] p
+  pub typed : tm_type p ≡ a ⇒ bool_ty
+
+pub record IsFormula (sig : Signature) (p : Tm) : Type 0 where
+  pub over : IsOver sig [] p
+  pub boolean : tm_type p ≡ bool_ty

@@ -1,9 +1,12 @@
 //! The derived rules of natural deduction over the kernel, each with its exact sequent.
 #![tactic(auto)]
 
-pub mod binders;
-pub mod connectives;
-mod fact_tables;
-mod facts;
+mod binders;
+mod connectives;
+mod kept_tables;
 mod operands;
+mod places;
 mod rule_tables;
+mod rules;
+
+pub use rules::Rules;

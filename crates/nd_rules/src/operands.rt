@@ -9,7 +9,7 @@ ghost use Rattle.hol_terms.specs.Sequent.{IsEq, left_of, argument};
 ghost use Rattle.hol_terms.specs.Rules.{function};
 ghost use Rattle.hol_terms.specs.Proves.{IsDerivable};
 ghost use Rattle.hol_kernel.specs.State.{Has};
-ghost use Rattle.nd_rules.specs.Shapes.{IsUnary, IsBinary, AreOperands, IsOperand, AreSides};
+ghost use Rattle.nd_rules.specs.Shapes.{IsUnary, IsBinary, AreOperands, IsOperand, AreSides, IsQuantified, IsPredicate};
 
 use hol_kernel::{Kernel, Thm};
 use hol_terms::terms::{Term, TermNode};
@@ -80,4 +80,14 @@ pub(crate) fn sides<'a>(k: &Kernel, a: &'a Thm) -> (&'a Term, &'a Term)
 {
     let concl = a.concl();
     (concl.left(), concl.right())
+}
+
+/// P of `q P`, where q is a quantifier over the type of t.
+pub(crate) fn predicate<'a>(k: &Kernel, t: &Term, e: &'a Term) -> &'a Term
+    requires over { IsOver (signature_of k.now.defs) [] e.now }
+    requires quantified { IsQuantified (tm_type t.now) e.now }
+    ensures value { result.now ≡ argument e.now }
+    ensures predicate { IsPredicate (signature_of k.now.defs) (tm_type t.now) result.now }
+{
+    argument_of(e)
 }

@@ -1,7 +1,7 @@
 use Rattle.std.proofs.Common.{ap, sym, ◌∙◌, subst}
 use Rattle.hol_terms.specs.Sequent.{argument}
 use Rattle.nd_rules.specs.Shapes.{IsUnary}
-use Rattle.nd_rules.proofs.Rules.{operand_is}
+use Rattle.nd_rules.proofs.Shapes.{operand_is}
 use Rattle.nd_rules.proofs.operands.operand.Goals as goal
 
 pub argument_of-requires : goal.argument_of-requires

@@ -1,7 +1,7 @@
 use Rattle.std.proofs.Common.{ap, sym, ◌∙◌, subst}
 use Rattle.hol_terms.specs.Sequent.{left_of, argument}
 use Rattle.nd_rules.specs.Shapes.{IsBinary}
-use Rattle.nd_rules.proofs.Rules.{binary_applied, operands_are}
+use Rattle.nd_rules.proofs.Shapes.{binary_applied, operands_are}
 use Rattle.nd_rules.proofs.operands.operands.Goals as goal
 
 pub first_of-requires : goal.first_of-requires

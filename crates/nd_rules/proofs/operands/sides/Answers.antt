@@ -1,6 +1,6 @@
 use Rattle.std.proofs.Common.{ap, ◌∙◌}
 use Rattle.hol_terms.specs.Sequent.{left_of, argument}
-use Rattle.nd_rules.proofs.Rules.{sides_are}
+use Rattle.nd_rules.proofs.Shapes.{sides_are}
 use Rattle.nd_rules.proofs.operands.sides.Goals as goal
 
 pub returns : goal.returns
