@@ -1,5 +1,1 @@
-pub mod Hypotheses
-pub mod Rules
-pub mod BinderLemmas
-pub mod BinderSteps
-pub mod BinderCases
+pub mod Keeping

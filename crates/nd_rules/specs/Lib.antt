@@ -3,3 +3,4 @@ pub mod Shapes
 pub mod Connectives
 pub mod Binders
 pub mod Quantifiers
+pub mod Kept
