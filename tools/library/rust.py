@@ -53,12 +53,12 @@ ANSWERS_HEAD = """\
 -- %s
 use Rattle.std.proofs.Common.{refl}
 use Rattle.library_steps.proofs.Computed.{from_none, from_more}
-use Rattle.library_steps.proofs.Taken.{LEMMAS_ON, can_take, made_to, facts_to, base_is}
+use Rattle.library_steps.proofs.Taken.{LEMMAS_ON, can_take, made_to, facts_to}
 use Rattle.CRATE.proofs.MODULE.{LEMMAS}
 use Rattle.CRATE.proofs.building.build_NAME.Goals as goal
 
-pub take_steps-requires-clause-base : goal.take_steps-requires-clause-base
-take_steps-requires-clause-base c = base_is BEFORE _ refl c.requires.defs
+pub take_steps-requires-clause-rules : goal.take_steps-requires-clause-rules
+take_steps-requires-clause-rules c = c.requires.rules
 
 pub take_steps-requires-clause-shelf : goal.take_steps-requires-clause-shelf
 take_steps-requires-clause-shelf c = c.requires.shelf
@@ -293,7 +293,7 @@ def answers(part, made):
         known_on = "(both_on %s %s)" % (on.pop(), known_on)
     head = ANSWERS_HEAD.replace("LEMMAS_ON", {0: "none_on", 1: "all_on"}.get(len(part.lists), "both_on"))
     head = head.replace("LEMMAS", ", ".join(lemma_name(one) for one in made)).replace("KNOWN", known_on).replace("all_on, ", "")
-    head = head.replace("BEFORE", str(part.before)).replace("CRATE", part.crate).replace("MODULE", module(part)).replace("NAME", part.name)
+    head = head.replace("CRATE", part.crate).replace("MODULE", module(part)).replace("NAME", part.name)
     return head + rows + "tt" + ")" * len(made) + ANSWERS_TAIL.replace("FACTS", part.facts)
 
 

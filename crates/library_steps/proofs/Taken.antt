@@ -10,6 +10,8 @@ use Rattle.hol_terms.specs.Text.{Text}
 use Rattle.hol_kernel.specs.State.{State, Theorem, Grows}
 use Rattle.library_facts.specs.declared.facts.Fact.{Fact}
 use Rattle.kernel_lines.specs.Bases.{HasBase}
+use Rattle.nd_rules.specs.Kept.{HasRules}
+use Rattle.nd_rules.proofs.Keeping.{rules_keep}
 use Rattle.script_core.specs.Shelves.{Shelved, ShelfHad, IsOn, AreOn}
 use Rattle.library_steps.specs.Closed.{Proves}
 use Rattle.library_steps.specs.Building.{Keeps, Extends, facts_on, defs_after, facts_after, made, proved, FitsAt, AllFit, CanTake, Makes, Puts, AreAmong, IsConstantAt, IsTypeAt}
@@ -30,21 +32,11 @@ fact_fits ds facts step fact from table h e = subst (FitsAt ds facts) e h
 pub above_nine : (n : ℕ) → 9 < n → 10 ≤ n
 above_nine n b = omega arith
 
-one_more : (n : ℕ) → 10 ≤ n → 10 ≤ n + 1
-one_more n b = omega arith
-
-base_prefix : (n : ℕ) → 10 ≤ n → HasBase (base n)
-base_prefix n b = record { is = (drop 10 (base n), sym (take-append-drop 10 (base n)) ∙ ap (λ (ds : List Definition). ds ++ drop 10 (base n)) (take-take 10 n base_definitions b)) }
-
-pub base_is : (n : ℕ) (ds : List Definition) → nat_lt 9 n ≡ true → ds ≡ base n → HasBase ds
-base_is n ds b e = subst HasBase (sym e) (base_prefix n (above_nine n (ltb-true 9 n b)))
-
--- the first ten base definitions are still there
-pub base_behind : (ds : List Definition) (place : ℕ) → 10 ≤ place → ds ≡ base (place + 1) → HasBase ds
-base_behind ds place b e = subst HasBase (sym e) (base_prefix (place + 1) (one_more place b))
-
-pub base_same : (k l : State) → HasBase k.defs → Grows k l → HasBase l.defs
-base_same k l h g = subst HasBase (sym g.defs) h
+-- rules go on being usable
+pub rules_kept : {k l : State} {kept : List Theorem} → HasRules k kept → Keeps k l → HasRules l kept
+rules_kept {k} {l} {kept} h g =
+    let more : HasBase l.defs = record { is = (h.base.is.0 ++ g.more, g.defs ∙ ap (λ (ds : List Definition). ds ++ g.more) h.base.is.1 ∙ append_assoc (base 10) h.base.is.0 g.more) } in
+    rules_keep k l kept h more g.theorems
 
 pub had_keeps : (k l : State) (s : Shelved) → ShelfHad k s → Keeps k l → ShelfHad l s
 had_keeps k l s h g = record { all = λ i d b. g.theorems _ (h.all i d b) }

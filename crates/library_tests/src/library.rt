@@ -2,6 +2,7 @@
 
 ghost use Rattle.std.specs.Prelude.{◌≡◌, IfOk};
 ghost use Rattle.hol_terms.specs.Base.{base};
+ghost use Rattle.nd_rules.specs.Kept.{HasRules};
 ghost use Rattle.script_core.specs.Shelves.{AreOn, ShelfHad};
 ghost use Rattle.library_facts.specs.Libraries.{base_facts, number_facts, path_facts};
 
@@ -12,6 +13,7 @@ use library_facts::{
     CountableFact, CsetFact, Fact, LogicFact, NumberFact, OrderFact, PathFact, ProductFact,
     SumFact, fact_stmt,
 };
+use nd_rules::Rules;
 use script_core::Shelf;
 use std::alloc::{AllocError, Global};
 use std::test::Fail;
@@ -78,44 +80,75 @@ fn is_proved(alloc: Global, shelf: &Shelf, fact: Fact) -> Result<bool, AllocErro
     }
 }
 
-// The kernel and the shelf with the first library.
-#[tactic(auto, using(crate::proofs::Shelves::had_none))]
-fn first(alloc: Global) -> Result<(Kernel, Shelf), AllocError>
-    ensures defs { IfOk result (λ r. r.0.defs ≡ base 33) }
-    ensures base_facts { IfOk result (λ r. AreOn r.1 base_facts) }
-    ensures shelf { IfOk result (λ r. ShelfHad r.0 r.1) }
+// A kernel, the rules that serve it, and a shelf.
+#[derive(Drop)]
+struct Built {
+    kernel: Kernel,
+    rules: Rules,
+    shelf: Shelf,
+}
+
+// With the first library.
+#[tactic(auto, using(crate::proofs::Built::first_lemmas))]
+fn first(alloc: Global) -> Result<Built, AllocError>
+    ensures rules { IfOk result (λ b. HasRules b.kernel b.rules) }
+    ensures defs { IfOk result (λ b. b.kernel.defs ≡ base 33) }
+    ensures base_facts { IfOk result (λ b. AreOn b.shelf base_facts) }
+    ensures shelf { IfOk result (λ b. ShelfHad b.kernel b.shelf) }
 {
     let mut kernel = start(alloc)?;
+    let rules = Rules::new(alloc, &mut kernel)?;
     let mut shelf = Shelf::new(alloc)?;
-    th_base::build(alloc, &mut kernel, &mut shelf)?;
-    Ok((kernel, shelf))
+    th_base::build(alloc, &mut kernel, &rules, &mut shelf)?;
+    Ok(Built {
+        kernel,
+        rules,
+        shelf,
+    })
 }
 
 // With numbers and path codes behind it.
-#[tactic(auto, using(library_steps::proofs::Taken::all_more))]
-fn with_numbers(alloc: Global) -> Result<(Kernel, Shelf), AllocError>
-    ensures defs { IfOk result (λ r. r.0.defs ≡ base 43) }
-    ensures base_facts { IfOk result (λ r. AreOn r.1 base_facts) }
-    ensures number_facts { IfOk result (λ r. AreOn r.1 number_facts) }
-    ensures path_facts { IfOk result (λ r. AreOn r.1 path_facts) }
-    ensures shelf { IfOk result (λ r. ShelfHad r.0 r.1) }
+#[tactic(auto, using(crate::proofs::Built::more_lemmas))]
+fn with_numbers(alloc: Global) -> Result<Built, AllocError>
+    ensures rules { IfOk result (λ b. HasRules b.kernel b.rules) }
+    ensures defs { IfOk result (λ b. b.kernel.defs ≡ base 43) }
+    ensures base_facts { IfOk result (λ b. AreOn b.shelf base_facts) }
+    ensures number_facts { IfOk result (λ b. AreOn b.shelf number_facts) }
+    ensures path_facts { IfOk result (λ b. AreOn b.shelf path_facts) }
+    ensures shelf { IfOk result (λ b. ShelfHad b.kernel b.shelf) }
 {
-    let (mut kernel, mut shelf) = first(alloc)?;
-    th_num::build(alloc, &mut kernel, &mut shelf)?;
-    Ok((kernel, shelf))
+    let Built {
+        mut kernel,
+        rules,
+        mut shelf,
+    } = first(alloc)?;
+    th_num::build(alloc, &mut kernel, &rules, &mut shelf)?;
+    Ok(Built {
+        kernel,
+        rules,
+        shelf,
+    })
 }
 
 // And with countable sets.
-fn with_countable_sets(alloc: Global) -> Result<(Kernel, Shelf), AllocError> {
-    let (mut kernel, mut shelf) = with_numbers(alloc)?;
-    th_count::build(alloc, &mut kernel, &mut shelf)?;
-    Ok((kernel, shelf))
+fn with_countable_sets(alloc: Global) -> Result<Built, AllocError> {
+    let Built {
+        mut kernel,
+        rules,
+        mut shelf,
+    } = with_numbers(alloc)?;
+    th_count::build(alloc, &mut kernel, &rules, &mut shelf)?;
+    Ok(Built {
+        kernel,
+        rules,
+        shelf,
+    })
 }
 
 #[test]
 fn each_fact_is_proved(rt: HostRuntime) -> Result<(), Fail> {
     let alloc = rt.alloc();
-    let (kernel, shelf) = first(alloc)?;
+    let Built { kernel, shelf, .. } = first(alloc)?;
     assert_eq!(rt; kernel.defs().len(), 33);
     // The steps of the kernel that the start of `hbnf` takes.
     assert_eq!(rt; kernel.steps().len(), 37_564);
@@ -143,7 +176,7 @@ static NUMBER_FACTS: [Fact; 11] = [
 #[test]
 fn numbers_are_built(rt: HostRuntime) -> Result<(), Fail> {
     let alloc = rt.alloc();
-    let (kernel, shelf) = with_numbers(alloc)?;
+    let Built { kernel, shelf, .. } = with_numbers(alloc)?;
     assert_eq!(rt; kernel.defs().len(), 43);
     assert_eq!(rt; kernel.steps().len(), 102_639);
     for fact in &NUMBER_FACTS {
@@ -175,7 +208,7 @@ static COUNTABLE_FACTS: [Fact; 16] = [
 #[test]
 fn countable_sets_are_built(rt: HostRuntime) -> Result<(), Fail> {
     let alloc = rt.alloc();
-    let (kernel, shelf) = with_countable_sets(alloc)?;
+    let Built { kernel, shelf, .. } = with_countable_sets(alloc)?;
     assert_eq!(rt; kernel.defs().len(), 49);
     assert_eq!(rt; kernel.steps().len(), 162_811);
     for fact in &COUNTABLE_FACTS {

@@ -18,10 +18,10 @@ use Rattle.library_facts.specs.declared.facts.Fact.{Fact}
 use Rattle.hol_text.specs.Over.{GivesTypes}
 use Rattle.text_laws.proofs.Given.{gives_types}
 use Rattle.hol_kernel.specs.State.{State, Theorem, Has, Grows}
-use Rattle.kernel_lines.specs.Bases.{HasBase}
 use Rattle.kernel_lines.specs.Lines.{on, last}
 use Rattle.kernel_lines.specs.Ready.{behind, sequents, AllOver, AllHad}
 use Rattle.kernel_lines.proofs.Had.{last_push, had_last}
+use Rattle.nd_rules.proofs.Keeping.{rules_grow}
 use Rattle.script_core.specs.Steps.{Registers, inferred}
 use Rattle.script_core.specs.Words.{first_word, after_word, words, kind_named}
 use Rattle.script_core.specs.Tables.{read, with_type, with_term, with_thm, stepped, line_step, run, run_whole, facts_put, table_sequent}
@@ -136,9 +136,6 @@ pub table_end : (ds : List Definition) (r : Registers) (hs us : List Theorem) (t
 table_end ds r hs us th ls i h e d =
     rw (drop_all i ls h, e, d, map_push (λ (t : Theorem). t.sequent) us th) (last_push (sequents us) th.sequent)
 
-pub base_on : (k l : State) → HasBase k.defs → Grows k l → HasBase l.defs
-base_on k l h g = subst HasBase (sym g.defs) h
-
 -- a turn of the loop over the lines
 pub turn_fits : (o : Option Sequent) {es : List Definition} {q : Registers} (xs : List (Bor Text)) (i : ℕ) (d : Bor Text) → i < length xs → IsSome o → o ≡ run es q (behind (drop i xs))
     → LineFits es q (get_or xs i d).now
@@ -153,7 +150,7 @@ turn_rest {k} {l} {r} {q} xs i d h g s =
     ∙ ap (λ ds. run ds q (behind (drop (suc i) xs))) (sym g.defs)
     ∙ ap (λ m. run l.defs q (behind (drop m xs))) (sym (add-one i))
 
-pub ruleset loop_lemmas = (ready_on, typed_on, base_on, table_end, had_last)
+pub ruleset loop_lemmas = (ready_on, typed_on, rules_grow, table_end, had_last)
 
 pub types_from : (k : State) (th : Theorem) → th.defs ≡ k.defs → IsDerivable th.defs th.sequent → GivesTypes (signature_of k.defs)
 types_from k th e d = subst (λ (ds : List Definition). GivesTypes (signature_of ds)) e (gives_types th.defs d.conservative)

@@ -7,6 +7,7 @@ ghost use Rattle.hol_terms.specs.Reading.{reading_of_type, reading_of_term};
 ghost use Rattle.hol_text.specs.Over.{GivesTypes};
 ghost use Rattle.hol_kernel.specs.State.{Has, Grows};
 ghost use Rattle.kernel_lines.specs.Bases.{HasBase};
+ghost use Rattle.nd_rules.specs.Kept.{HasRules};
 ghost use Rattle.kernel_lines.specs.Ready.{behind, sequents, AllHad};
 ghost use Rattle.script_core.specs.Words.{words};
 ghost use Rattle.script_core.specs.Steps.{inferred};
@@ -24,6 +25,7 @@ use hol_terms::terms::Term;
 use hol_terms::types::HolType;
 use hol_text::read::{ReadError, read_term, read_type};
 use library_facts::Fact;
+use nd_rules::Rules;
 use std::alloc::{AllocError, Global};
 
 /// What a table is given beside facts: the first types, the first terms, and the theorems behind those of the facts.
@@ -83,11 +85,12 @@ fn term_read(alloc: Global, k: &Kernel, text: &str) -> Result<Term, AllocError>
 fn thm_made(
     alloc: Global,
     k: &mut Kernel,
+    rules: &Rules,
     r: &Entries,
     rule: Rule,
     text: &str,
 ) -> Result<Thm, AllocError>
-    requires base { HasBase k.old.defs }
+    requires rules { HasRules k.old rules.now }
     requires ready { IsReady k.old r.now }
     requires fits { IsSome (inferred k.old.defs (values r.now) rule (words text.now)) }
     ensures exact { IfOk result (λ th. inferred k.old.defs (values r.now) rule (words text.now) ≡ Some th.sequent) }
@@ -95,7 +98,7 @@ fn thm_made(
     ensures grows { Grows k.old k.new }
 {
     let words = words(alloc, text)?;
-    infer(alloc, k, r, rule, &words)
+    infer(alloc, k, rules, r, rule, &words)
 }
 
 /// Puts a type behind the others.
@@ -139,11 +142,12 @@ fn push_thm(k: &Kernel, r: &mut Entries, th: Thm) -> Result<(), AllocError>
 fn add_entry(
     alloc: Global,
     k: &mut Kernel,
+    rules: &Rules,
     r: &mut Entries,
     kind: LineKind,
     text: &str,
 ) -> Result<(), AllocError>
-    requires base { HasBase k.old.defs }
+    requires rules { HasRules k.old rules.now }
     requires typed { GivesTypes (signature_of k.old.defs) }
     requires ready { IsReady k.old r.old }
     requires fits { IsSome (stepped k.old.defs (values r.old) kind text.now) }
@@ -163,7 +167,7 @@ fn add_entry(
             Ok(())
         }
         LineKind::Step(rule) => {
-            let th = thm_made(alloc, k, r, rule, text)?;
+            let th = thm_made(alloc, k, rules, r, rule, text)?;
             push_thm(k, r, th)?;
             Ok(())
         }
@@ -172,8 +176,14 @@ fn add_entry(
 
 /// Follows a line.
 #[tactic(auto, using(crate::proofs::TableLemmas::line_lemmas))]
-fn run_line(alloc: Global, k: &mut Kernel, r: &mut Entries, line: &str) -> Result<(), AllocError>
-    requires base { HasBase k.old.defs }
+fn run_line(
+    alloc: Global,
+    k: &mut Kernel,
+    rules: &Rules,
+    r: &mut Entries,
+    line: &str,
+) -> Result<(), AllocError>
+    requires rules { HasRules k.old rules.now }
     requires typed { GivesTypes (signature_of k.old.defs) }
     requires ready { IsReady k.old r.old }
     requires fits { LineFits k.old.defs (values r.old) line.now }
@@ -185,14 +195,20 @@ fn run_line(alloc: Global, k: &mut Kernel, r: &mut Entries, line: &str) -> Resul
     let Some(kind) = kind_named(word) else {
         unreachable!();
     };
-    add_entry(alloc, k, r, kind, text)?;
+    add_entry(alloc, k, rules, r, kind, text)?;
     Ok(())
 }
 
 /// The last theorem, after the lines.
 #[tactic(auto, using(crate::proofs::TableLemmas::loop_lemmas))]
-fn run_lines(alloc: Global, k: &mut Kernel, r: Entries, lines: &[&str]) -> Result<Thm, AllocError>
-    requires base { HasBase k.old.defs }
+fn run_lines(
+    alloc: Global,
+    k: &mut Kernel,
+    rules: &Rules,
+    r: Entries,
+    lines: &[&str],
+) -> Result<Thm, AllocError>
+    requires rules { HasRules k.old rules.now }
     requires typed { GivesTypes (signature_of k.old.defs) }
     requires ready { IsReady k.old r }
     requires fits { IsSome (run k.old.defs (values r) (behind lines.now)) }
@@ -202,7 +218,7 @@ fn run_lines(alloc: Global, k: &mut Kernel, r: Entries, lines: &[&str]) -> Resul
 {
     let mut r = r;
     for line in lines {
-        run_line(alloc, k, &mut r, line)?;
+        run_line(alloc, k, rules, &mut r, line)?;
     }
     match r.thms.pop() {
         Some(th) => Ok(th),
@@ -310,12 +326,13 @@ fn start(
 pub fn run_table(
     alloc: Global,
     k: &mut Kernel,
+    rules: &Rules,
     s: &Shelf,
     facts: &[Fact],
     given: &Given<'_>,
     table: &str,
 ) -> Result<Thm, AllocError>
-    requires base { HasBase k.old.defs }
+    requires rules { HasRules k.old rules.now }
     requires shelf { ShelfHad k.old s.now }
     requires listed { AreOn s.now facts.now }
     requires given { IsGiven k.old given.now }
@@ -327,6 +344,6 @@ pub fn run_table(
     check_types(alloc, k)?;
     let r = start(alloc, k, s, facts, given)?;
     let lines = lines(alloc, table)?;
-    let th = run_lines(alloc, k, r, &lines)?;
+    let th = run_lines(alloc, k, rules, r, &lines)?;
     Ok(th)
 }

@@ -7,7 +7,7 @@ use Rattle.hol_terms.specs.Base.{base}
 use Rattle.hol_terms.specs.Sequent.{Sequent, seq, eq_tm}
 use Rattle.hol_terms.specs.Logic.{const_T}
 use Rattle.hol_terms.specs.Text.{Text}
-use Rattle.hol_kernel.specs.State.{State, Theorem, Has}
+use Rattle.hol_kernel.specs.State.{State, Theorem, Has, Grows}
 use Rattle.kernel_lines.specs.Lines.{on}
 use Rattle.library_facts.proofs.BaseSignature.{base_signature}
 use Rattle.library_facts.specs.declared.facts.Fact.{Fact}
@@ -22,6 +22,10 @@ use Rattle.script_tests.specs.Closed.{nothing}
 -- each kernel has the theorems of a shelf without any
 pub had_none : (k : State) (s : Shelved) → s ≡ [] → ShelfHad k s
 had_none k s e = subst (λ (t : Shelved). ShelfHad k t) (sym e) (record { all = All-nil (λ (x : Fact × Theorem). Has k x.1) })
+
+-- and where only steps were added, those of any other
+pub had_grows : (k l : State) (s : Shelved) → ShelfHad k s → Grows k l → ShelfHad l s
+had_grows k l s h g = record { all = λ i d b. g.keeps _ (h.all i d b) }
 
 -- a shelf of one fact
 pub had_one : (k : State) (s t : Shelved) (fact : Fact) (th : Theorem) → s ≡ [] → t ≡ s ++ (fact, th) ∷ [] → Has k th → ShelfHad k t

@@ -9,6 +9,7 @@ use crate::closed::{derived, run_closed, says};
 use hol_kernel::{Kernel, Thm};
 use kernel_lines::start;
 use library_facts::{Fact, LogicFact};
+use nd_rules::Rules;
 use script_core::Shelf;
 use std::alloc::{AllocError, Global};
 use std::test::Fail;
@@ -71,8 +72,9 @@ fn facts_are_got(rt: HostRuntime) -> Result<(), Fail> {
 fn from_fact(alloc: Global) -> Result<Thm, AllocError> {
     let mut k = start(alloc)?;
     let shelf = shelved(alloc, &mut k)?;
+    let rules = Rules::new(alloc, &mut k)?;
     let facts = [Fact::Logic(LogicFact::Truth)];
-    let th = run_closed(alloc, &mut k, &shelf, &facts, "eqt_i 0\n")?;
+    let th = run_closed(alloc, &mut k, &rules, &shelf, &facts, "eqt_i 0\n")?;
     Ok(th)
 }
 

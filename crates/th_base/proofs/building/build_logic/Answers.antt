@@ -1,12 +1,12 @@
 -- Written by `python3 tools/library.py write` from the scripts of tools/library/.
 use Rattle.std.proofs.Common.{refl}
 use Rattle.library_steps.proofs.Computed.{from_none, from_more}
-use Rattle.library_steps.proofs.Taken.{none_on, can_take, made_to, facts_to, base_is}
+use Rattle.library_steps.proofs.Taken.{none_on, can_take, made_to, facts_to}
 use Rattle.th_base.proofs.LogicTables.{truth_proves, extensionality_proves, excluded_middle_proves, contradiction_proves, double_negation_proves, not_disj_proves, not_conj_proves, imp_as_disj_proves, not_imp_proves, not_ex_proves, not_all_proves, not_as_equation_proves, functions_differ_proves, truth_values_differ_proves, some_holds_proves, choice_proves, choice_on_proves, unique_choice_proves, constant_10, identity_proves, constant_11, if_true_proves, if_false_proves}
 use Rattle.th_base.proofs.building.build_logic.Goals as goal
 
-pub take_steps-requires-clause-base : goal.take_steps-requires-clause-base
-take_steps-requires-clause-base c = base_is 10 _ refl c.requires.defs
+pub take_steps-requires-clause-rules : goal.take_steps-requires-clause-rules
+take_steps-requires-clause-rules c = c.requires.rules
 
 pub take_steps-requires-clause-shelf : goal.take_steps-requires-clause-shelf
 take_steps-requires-clause-shelf c = c.requires.shelf

@@ -1,12 +1,12 @@
 -- Written by `python3 tools/library.py write` from the scripts of tools/library/.
 use Rattle.std.proofs.Common.{refl}
 use Rattle.library_steps.proofs.Computed.{from_none, from_more}
-use Rattle.library_steps.proofs.Taken.{can_take, made_to, facts_to, base_is}
+use Rattle.library_steps.proofs.Taken.{can_take, made_to, facts_to}
 use Rattle.th_base.proofs.ProductsTables.{unit_inhabited_shows, unit_abs_rep_proves, unit_rep_abs_proves, unit_equal_proves, constant_13, constant_14, prod_inhabited_shows, prod_abs_rep_proves, prod_rep_abs_proves, constant_16, constant_17, constant_18, pair_rep_proves, pair_injective_proves, pair_exhausts_proves, fst_pair_proves, snd_pair_proves, pair_of_components_proves, constant_19, constant_20, constant_21, constant_22}
 use Rattle.th_base.proofs.building.build_products.Goals as goal
 
-pub take_steps-requires-clause-base : goal.take_steps-requires-clause-base
-take_steps-requires-clause-base c = base_is 12 _ refl c.requires.defs
+pub take_steps-requires-clause-rules : goal.take_steps-requires-clause-rules
+take_steps-requires-clause-rules c = c.requires.rules
 
 pub take_steps-requires-clause-shelf : goal.take_steps-requires-clause-shelf
 take_steps-requires-clause-shelf c = c.requires.shelf

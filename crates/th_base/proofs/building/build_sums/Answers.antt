@@ -1,12 +1,12 @@
 -- Written by `python3 tools/library.py write` from the scripts of tools/library/.
 use Rattle.std.proofs.Common.{refl}
 use Rattle.library_steps.proofs.Computed.{from_none, from_more}
-use Rattle.library_steps.proofs.Taken.{both_on, can_take, made_to, facts_to, base_is}
+use Rattle.library_steps.proofs.Taken.{both_on, can_take, made_to, facts_to}
 use Rattle.th_base.proofs.SumsTables.{constant_23, constant_24, sum_inhabited_shows, sum_abs_rep_proves, sum_rep_abs_proves, constant_26, constant_27, inl_rep_proves, inr_rep_proves, inl_injective_proves, inr_injective_proves, inl_not_inr_proves, inr_not_inl_proves, inl_or_inr_proves, constant_28, case_inl_proves, case_inr_proves, constant_29, constant_30, constant_31, constant_32}
 use Rattle.th_base.proofs.building.build_sums.Goals as goal
 
-pub take_steps-requires-clause-base : goal.take_steps-requires-clause-base
-take_steps-requires-clause-base c = base_is 23 _ refl c.requires.defs
+pub take_steps-requires-clause-rules : goal.take_steps-requires-clause-rules
+take_steps-requires-clause-rules c = c.requires.rules
 
 pub take_steps-requires-clause-shelf : goal.take_steps-requires-clause-shelf
 take_steps-requires-clause-shelf c = c.requires.shelf

@@ -1,12 +1,12 @@
 -- Written by `python3 tools/library.py write` from the scripts of tools/library/.
 use Rattle.std.proofs.Common.{refl}
 use Rattle.library_steps.proofs.Computed.{from_none, from_more}
-use Rattle.library_steps.proofs.Taken.{both_on, can_take, made_to, facts_to, base_is}
+use Rattle.library_steps.proofs.Taken.{both_on, can_take, made_to, facts_to}
 use Rattle.th_count.proofs.CountableTables.{constant_43, countable_enumerated_proves, countable_enumeration_proves, countable_subset_proves, countable_on_type_proves, countable_num_proves, countable_empty_proves, countable_singleton_proves, countable_unit_proves, countable_bool_proves, countable_enumerated_twice_proves, countable_union_proves, countable_union_of_two_proves, countable_image_proves, countable_range_proves, countable_injection_proves, countable_product_proves, countable_prod_proves, countable_sum_proves}
 use Rattle.th_count.proofs.building.build_countable.Goals as goal
 
-pub take_steps-requires-clause-base : goal.take_steps-requires-clause-base
-take_steps-requires-clause-base c = base_is 43 _ refl c.requires.defs
+pub take_steps-requires-clause-rules : goal.take_steps-requires-clause-rules
+take_steps-requires-clause-rules c = c.requires.rules
 
 pub take_steps-requires-clause-shelf : goal.take_steps-requires-clause-shelf
 take_steps-requires-clause-shelf c = c.requires.shelf

@@ -1,12 +1,12 @@
 -- Written by `python3 tools/library.py write` from the scripts of tools/library/.
 use Rattle.std.proofs.Common.{refl}
 use Rattle.library_steps.proofs.Computed.{from_none, from_more}
-use Rattle.library_steps.proofs.Taken.{both_on, can_take, made_to, facts_to, base_is}
+use Rattle.library_steps.proofs.Taken.{both_on, can_take, made_to, facts_to}
 use Rattle.th_count.proofs.CsetsTables.{cset_inhabited_shows, cset_abs_rep_proves, cset_rep_abs_proves, cset_countable_proves, cset_extensionality_proves, cset_member_proves, constant_45, constant_46, cset_map_member_proves, cset_map_is_proves, cset_map_exists_proves, cset_map_id_proves, cset_map_comp_proves, constant_47, cset_set_is_rep_proves, cset_set_member_proves, cset_set_map_proves, cset_set_count_proves, cset_map_cong_proves, constant_48, cset_maps_relate_each_proves, cset_maps_related_proves, cset_related_pairs_proves, cset_rel_firsts_proves, cset_rel_seconds_proves, cset_rel_of_pairs_proves, cset_rel_in_proves, cset_rel_between_proves, cset_rel_split_proves, cset_rel_forwards_proves, cset_rel_backwards_proves, cset_rel_comp_proves}
 use Rattle.th_count.proofs.building.build_csets.Goals as goal
 
-pub take_steps-requires-clause-base : goal.take_steps-requires-clause-base
-take_steps-requires-clause-base c = base_is 44 _ refl c.requires.defs
+pub take_steps-requires-clause-rules : goal.take_steps-requires-clause-rules
+take_steps-requires-clause-rules c = c.requires.rules
 
 pub take_steps-requires-clause-shelf : goal.take_steps-requires-clause-shelf
 take_steps-requires-clause-shelf c = c.requires.shelf

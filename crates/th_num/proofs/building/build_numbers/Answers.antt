@@ -1,12 +1,12 @@
 -- Written by `python3 tools/library.py write` from the scripts of tools/library/.
 use Rattle.std.proofs.Common.{refl}
 use Rattle.library_steps.proofs.Computed.{from_none, from_more}
-use Rattle.library_steps.proofs.Taken.{can_take, made_to, facts_to, base_is}
+use Rattle.library_steps.proofs.Taken.{can_take, made_to, facts_to}
 use Rattle.th_num.proofs.NumbersTables.{constant_33, ind_infinite_proves, constant_34, zero_ind_not_suc_proves, constant_35, zero_ind_is_num_proves, suc_ind_is_num_proves, num_inhabited_shows, num_abs_rep_proves, num_rep_abs_proves, rep_is_num_proves, constant_37, rep_zero_proves, constant_38, rep_suc_proves, suc_not_zero_proves, suc_injective_proves, num_induction_proves, num_cases_proves, fixed_relation_proves, recursion_graph_proves, graph_at_zero_proves, one_point_of_two_proves, graph_at_step_proves, only_one_proves, graph_values_proves, graph_function_proves, recursion_from_graph_proves, recursion_proves, num_recursion_proves, constant_39, rec_equations_proves, rec_zero_proves, rec_suc_proves, constant_40, le_reflexive_proves, le_suc_proves, le_induction_proves, le_transitive_proves, le_suc_suc_proves, le_cases_proves, none_below_zero_proves, le_of_sucs_proves, strong_induction_proves}
 use Rattle.th_num.proofs.building.build_numbers.Goals as goal
 
-pub take_steps-requires-clause-base : goal.take_steps-requires-clause-base
-take_steps-requires-clause-base c = base_is 33 _ refl c.requires.defs
+pub take_steps-requires-clause-rules : goal.take_steps-requires-clause-rules
+take_steps-requires-clause-rules c = c.requires.rules
 
 pub take_steps-requires-clause-shelf : goal.take_steps-requires-clause-shelf
 take_steps-requires-clause-shelf c = c.requires.shelf

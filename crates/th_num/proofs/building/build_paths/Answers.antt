@@ -1,12 +1,12 @@
 -- Written by `python3 tools/library.py write` from the scripts of tools/library/.
 use Rattle.std.proofs.Common.{refl}
 use Rattle.library_steps.proofs.Computed.{from_none, from_more}
-use Rattle.library_steps.proofs.Taken.{both_on, can_take, made_to, facts_to, base_is}
+use Rattle.library_steps.proofs.Taken.{both_on, can_take, made_to, facts_to}
 use Rattle.th_num.proofs.PathsTables.{constant_41, double_zero_proves, double_suc_proves, even_odd_selector_proves, double_not_odd_proves, double_injective_proves, double_is_zero_proves, le_double_proves, below_double_proves, even_or_odd_proves, constant_42, cons_zero_proves, cons_suc_proves, below_cons_proves, cons_not_zero_proves, cons_step_zero_proves, cons_zero_injective_proves, cons_injective_proves, double_is_code_proves, path_cases_proves, path_induction_proves, path_recursion_proves}
 use Rattle.th_num.proofs.building.build_paths.Goals as goal
 
-pub take_steps-requires-clause-base : goal.take_steps-requires-clause-base
-take_steps-requires-clause-base c = base_is 41 _ refl c.requires.defs
+pub take_steps-requires-clause-rules : goal.take_steps-requires-clause-rules
+take_steps-requires-clause-rules c = c.requires.rules
 
 pub take_steps-requires-clause-shelf : goal.take_steps-requires-clause-shelf
 take_steps-requires-clause-shelf c = c.requires.shelf
