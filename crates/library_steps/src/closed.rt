@@ -2,6 +2,7 @@
 
 ghost use Rattle.std.specs.Prelude.{◌≡◌, ◌++◌, ◌∷◌, [], IfOk, OnOk};
 ghost use Rattle.hol_kernel.specs.State.{Has, Grows};
+ghost use Rattle.library_facts.specs.Facts.{statement_of, statements_of};
 ghost use Rattle.nd_rules.specs.Kept.{HasRules};
 ghost use Rattle.script_core.specs.Shelves.{IsFact, AreOn, ShelfHad};
 ghost use Rattle.script_core.specs.Ready.{Fits, Gives};
@@ -25,9 +26,9 @@ pub(crate) fn run_closed(
 ) -> Result<Thm, AllocError>
     requires rules { HasRules k.old rules.now }
     requires shelf { ShelfHad k.old s.now }
-    requires listed { AreOn s.now facts.now }
-    requires fits { Fits k.old.defs facts.now nothing table.now }
-    ensures exact { IfOk result (λ th. Gives k.old.defs facts.now nothing table.now th.sequent) }
+    requires listed { AreOn s.now (statements_of facts.now) }
+    requires fits { Fits k.old.defs (statements_of facts.now) nothing table.now }
+    ensures exact { IfOk result (λ th. Gives k.old.defs (statements_of facts.now) nothing table.now th.sequent) }
     ensures has { IfOk result (λ th. Has k.new th) }
     ensures grows { Grows k.old k.new }
 {
@@ -58,9 +59,9 @@ fn fact_shown(
 ) -> Result<Thm, AllocError>
     requires rules { HasRules k.old rules.now }
     requires shelf { ShelfHad k.old s.now }
-    requires listed { AreOn s.now from.now }
-    requires proves { Proves k.old.defs from.now table.now fact }
-    ensures exact { IfOk result (λ th. IsFact fact th.sequent) }
+    requires listed { AreOn s.now (statements_of from.now) }
+    requires proves { Proves k.old.defs (statements_of from.now) table.now (statement_of fact) }
+    ensures exact { IfOk result (λ th. IsFact (statement_of fact) th.sequent) }
     ensures has { IfOk result (λ th. Has k.new th) }
     ensures grows { Grows k.old k.new }
 {
@@ -81,9 +82,9 @@ pub(crate) fn prove(
 ) -> Result<(), AllocError>
     requires rules { HasRules k.old rules.now }
     requires shelf { ShelfHad k.old s.old }
-    requires listed { AreOn s.old from.now }
-    requires proves { Proves k.old.defs from.now table.now fact }
-    ensures facts { OnOk result (facts_on s.new ≡ facts_on s.old ++ fact ∷ []) }
+    requires listed { AreOn s.old (statements_of from.now) }
+    requires proves { Proves k.old.defs (statements_of from.now) table.now (statement_of fact) }
+    ensures facts { OnOk result (facts_on s.new ≡ facts_on s.old ++ statement_of fact ∷ []) }
     ensures shelf { ShelfHad k.new s.new }
     ensures more { Extends s.old s.new }
     ensures grows { Grows k.old k.new }

@@ -6,6 +6,7 @@ ghost use Rattle.hol_terms.specs.Signature.{IsTyOver, IsOver};
 ghost use Rattle.hol_terms.specs.Reading.{reading_of_type, reading_of_term};
 ghost use Rattle.hol_text.specs.Over.{GivesTypes};
 ghost use Rattle.hol_kernel.specs.State.{Has, Grows};
+ghost use Rattle.library_facts.specs.Facts.{statement_of, statements_of};
 ghost use Rattle.kernel_lines.specs.Bases.{HasBase};
 ghost use Rattle.nd_rules.specs.Kept.{HasRules};
 ghost use Rattle.kernel_lines.specs.Ready.{behind, sequents, AllHad};
@@ -240,10 +241,10 @@ fn check_types(alloc: Global, k: &Kernel) -> Result<(), AllocError>
 /// The theorem of a fact that is on the shelf.
 #[tactic(auto, using(crate::proofs::ShelfLemmas::known_lemmas))]
 fn known<'a>(s: &'a Shelf, k: &Kernel, fact: Fact) -> &'a Thm
-    requires on { IsOn s.now fact }
+    requires on { IsOn s.now (statement_of fact) }
     requires had { ShelfHad k.now s.now }
     ensures has { Has k.now result.now }
-    ensures stated { IsFact fact result.now.sequent }
+    ensures stated { IsFact (statement_of fact) result.now.sequent }
 {
     match s.get(fact) {
         Some(th) => th,
@@ -254,9 +255,9 @@ fn known<'a>(s: &'a Shelf, k: &Kernel, fact: Fact) -> &'a Thm
 /// Copies the theorems of the facts.
 #[tactic(auto, using(crate::proofs::ShelfLemmas::premise_lemmas))]
 fn premises(alloc: Global, k: &Kernel, s: &Shelf, facts: &[Fact]) -> Result<Vec<Thm>, AllocError>
-    requires on { AreOn s.now facts.now }
+    requires on { AreOn s.now (statements_of facts.now) }
     requires had { ShelfHad k.now s.now }
-    ensures exact { IfOk result (λ v. facts_put [] facts.now ≡ Some (sequents v.items)) }
+    ensures exact { IfOk result (λ v. facts_put [] (statements_of facts.now) ≡ Some (sequents v.items)) }
     ensures had { IfOk result (λ v. AllHad k.now v.items) }
 {
     let mut thms = Vec::new(alloc);
@@ -305,10 +306,10 @@ fn start(
     facts: &[Fact],
     given: &Given<'_>,
 ) -> Result<Entries, AllocError>
-    requires on { AreOn s.now facts.now }
+    requires on { AreOn s.now (statements_of facts.now) }
     requires had { ShelfHad k.now s.now }
     requires given { IsGiven k.now given.now }
-    ensures exact { IfOk result (λ r. StartsFrom facts.now (given_values given.now) (values r)) }
+    ensures exact { IfOk result (λ r. StartsFrom (statements_of facts.now) (given_values given.now) (values r)) }
     ensures ready { IfOk result (λ r. IsReady k.now r) }
 {
     let types = copy_types(alloc, given.types)?;
@@ -334,10 +335,10 @@ pub fn run_table(
 ) -> Result<Thm, AllocError>
     requires rules { HasRules k.old rules.now }
     requires shelf { ShelfHad k.old s.now }
-    requires listed { AreOn s.now facts.now }
+    requires listed { AreOn s.now (statements_of facts.now) }
     requires given { IsGiven k.old given.now }
-    requires fits { Fits k.old.defs facts.now (given_values given.now) table.now }
-    ensures exact { IfOk result (λ th. Gives k.old.defs facts.now (given_values given.now) table.now th.sequent) }
+    requires fits { Fits k.old.defs (statements_of facts.now) (given_values given.now) table.now }
+    ensures exact { IfOk result (λ th. Gives k.old.defs (statements_of facts.now) (given_values given.now) table.now th.sequent) }
     ensures has { IfOk result (λ th. Has k.new th) }
     ensures grows { Grows k.old k.new }
 {

@@ -4,6 +4,7 @@ ghost use Rattle.std.specs.Prelude.{◌≡◌, [], IfOk, OnOk};
 ghost use Rattle.hol_terms.specs.Base.{base};
 ghost use Rattle.hol_kernel.specs.State.{Has, Grows};
 ghost use Rattle.kernel_lines.specs.Bases.{HasBase};
+ghost use Rattle.library_facts.specs.Facts.{statements_of};
 ghost use Rattle.nd_rules.specs.Kept.{HasRules};
 ghost use Rattle.script_core.specs.Shelves.{AreOn, ShelfHad};
 ghost use Rattle.script_core.specs.Ready.{Fits, Gives};
@@ -28,9 +29,9 @@ pub(crate) fn run_closed(
 ) -> Result<Thm, AllocError>
     requires rules { HasRules k.old rules.now }
     requires shelf { ShelfHad k.old s.now }
-    requires listed { AreOn s.now facts.now }
-    requires fits { Fits k.old.defs facts.now nothing table.now }
-    ensures exact { IfOk result (λ th. Gives k.old.defs facts.now nothing table.now th.sequent) }
+    requires listed { AreOn s.now (statements_of facts.now) }
+    requires fits { Fits k.old.defs (statements_of facts.now) nothing table.now }
+    ensures exact { IfOk result (λ th. Gives k.old.defs (statements_of facts.now) nothing table.now th.sequent) }
     ensures has { IfOk result (λ th. Has k.new th) }
     ensures grows { Grows k.old k.new }
 {

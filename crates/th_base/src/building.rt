@@ -5,7 +5,7 @@ ghost use Rattle.hol_terms.specs.Base.{base};
 ghost use Rattle.nd_rules.specs.Kept.{HasRules};
 ghost use Rattle.script_core.specs.Shelves.{AreOn, ShelfHad};
 ghost use Rattle.library_steps.specs.Building.{Keeps, Extends};
-ghost use Rattle.library_facts.specs.Libraries.{base_facts, logic_facts, product_facts, sum_facts};
+ghost use Rattle.th_base.specs.Facts.{base_facts, logic_facts, product_facts, sum_facts};
 
 use crate::tables::{logic, products, sums};
 use hol_kernel::Kernel;

@@ -5,7 +5,9 @@ ghost use Rattle.hol_terms.specs.Base.{base};
 ghost use Rattle.nd_rules.specs.Kept.{HasRules};
 ghost use Rattle.script_core.specs.Shelves.{AreOn, ShelfHad};
 ghost use Rattle.library_steps.specs.Building.{Keeps, Extends};
-ghost use Rattle.library_facts.specs.Libraries.{base_facts, number_facts, path_facts, countable_facts, cset_facts};
+ghost use Rattle.th_base.specs.Facts.{base_facts};
+ghost use Rattle.th_num.specs.Facts.{number_facts, path_facts};
+ghost use Rattle.th_count.specs.Facts.{countable_facts, cset_facts};
 
 use crate::tables::{countable, csets};
 use hol_kernel::Kernel;
