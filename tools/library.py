@@ -39,7 +39,7 @@ def written():
         crate = rust.CRATES / part.crate
         texts[crate / "src/tables" / (part.name + ".rt")] = rust.source(part, made, of)
         texts[crate / "proofs" / (rust.module(part) + ".antt")] = rust.proofs(part, made, of)
-        texts[crate / ("proofs/building/build_%s/Answers.antt" % part.name)] = rust.answers(part, made)
+        texts[crate / ("proofs/building/build_%s/Answers.antt" % part.name)] = rust.answers(part, made, of)
     return texts
 
 

@@ -54,11 +54,11 @@ CITED""" % WRITTEN_BY
 # Why the steps can be taken, a fact's premises by their places among the facts before it.
 ANSWERS_HEAD = """\
 -- %s
-use Rattle.std.proofs.Common.{refl}
+use Rattle.std.proofs.Common.{refl, Some}
 use Rattle.library_steps.proofs.Computed.{from_none, from_more}
 use Rattle.library_steps.proofs.Taken.{LEMMAS_ON, can_take, made_to, facts_to}
 use Rattle.CRATE.proofs.MODULE.{LEMMAS}
-use Rattle.CRATE.proofs.building.build_NAME.Goals as goal
+CITEDuse Rattle.CRATE.proofs.building.build_NAME.Goals as goal
 
 pub take_steps-requires-clause-rules : goal.take_steps-requires-clause-rules
 take_steps-requires-clause-rules c = c.requires.rules
@@ -75,7 +75,7 @@ pub returns-clause-defs : goal.returns-clause-defs
 returns-clause-defs c = made_to c.in_ok-take_steps.ensures.defs c.requires.defs refl
 
 pub returns-clause-FACTS : goal.returns-clause-FACTS
-returns-clause-FACTS c = facts_to c.in_ok-take_steps.ensures.facts refl
+returns-clause-FACTS c = facts_to c.in_ok-take_steps.ensures.facts (refl {a = facts.FACTS})
 
 pub returns-clause-shelf : goal.returns-clause-shelf
 returns-clause-shelf c = c.take_steps.ensures.shelf
@@ -237,42 +237,47 @@ def proof(made, so_far, crate, of):
         table, agrees, lemma, so_far, taken, name, fact, lemma, name)
 
 
+def imports(part, made, of):
+    """The lines that import the texts of the facts that the tables of a part prove or take."""
+    named = dict.fromkeys([part.crate] + [of[fact] for one in made if one.table for fact in one.table.facts])
+    return "".join("use Rattle.%s.specs.Facts as %s\n" % (crate, "facts" if crate == part.crate else crate) for crate in named)
+
+
 def proofs(part, made, of):
     """The text of the lemmas on the steps of a part."""
     so_far, rows = part.before, []
     for one in made:
         rows.append(proof(one, so_far, part.crate, of))
         so_far += one.number is not None
-    named = dict.fromkeys([part.crate] + [of[fact] for one in made if one.table for fact in one.table.facts])
-    imports = "".join("use Rattle.%s.specs.Facts as %s\n" % (crate, "facts" if crate == part.crate else crate) for crate in named)
-    head = PROOFS_HEAD.replace("CITED", imports)
+    head = PROOFS_HEAD.replace("CITED", imports(part, made, of))
     if not any(one.number is not None and one.table for one in made):
         head = head.replace(", IsTypeAt", "").replace(", new_type_at", "")
     return head + "".join(rows)
 
 
-def fits(made, place_of):
-    """Why a step can be taken."""
+def fits(made, place_of, crate, of):
+    """Why a step can be taken. The texts of the facts are named, since the check would else write out the list that they are in."""
     if made.number is not None:
         return "(refl, %s)" % lemma_name(made)
     premises = "from_none"
     for fact in reversed(made.table.facts):
-        premises = "from_more %d refl %s" % (place_of[fact], premises if premises == "from_none" else "(%s)" % premises)
+        more = premises if premises == "from_none" else "(%s)" % premises
+        premises = "from_more %d (refl {a = Some %s}) %s" % (place_of[fact], spoken(fact, crate, of), more)
     return "(%s, %s)" % (premises, lemma_name(made))
 
 
-def answers(part, made):
+def answers(part, made, of):
     """The text of the answers for the steps of a part."""
     known = [fact for earlier in part.earlier for fact in earlier.proved]
     place_of = {fact.name: i for i, fact in enumerate(known + part.proved)}
-    rows = "".join("(%s, " % fits(one, place_of) for one in made)
+    rows = "".join("(%s, " % fits(one, place_of, part.crate, of) for one in made)
     on = ["c.requires." + name for name in part.lists] or ["(none_on _)"]
     known_on = on.pop()
     while on:
         known_on = "(both_on %s %s)" % (on.pop(), known_on)
     head = ANSWERS_HEAD.replace("LEMMAS_ON", {0: "none_on", 1: "all_on"}.get(len(part.lists), "both_on"))
     head = head.replace("LEMMAS", ", ".join(lemma_name(one) for one in made)).replace("KNOWN", known_on).replace("all_on, ", "")
-    head = head.replace("CRATE", part.crate).replace("MODULE", module(part)).replace("NAME", part.name)
+    head = head.replace("CITED", imports(part, made, of)).replace("CRATE", part.crate).replace("MODULE", module(part)).replace("NAME", part.name)
     return head + rows + "tt" + ")" * len(made) + ANSWERS_TAIL.replace("FACTS", part.facts)
 
 
