@@ -1,9 +1,8 @@
 """Proof tables of the library, from the scripts in tools/library/.
 
-    python3 tools/library.py check          runs every table that stands in the crates by a reader of its own, from the stated facts
-                                            alone, and compares the files with what `write` writes
-    python3 tools/library.py write          writes the tables and the proofs about them in th_base, th_num and th_count, and the
-                                            statements and lists of facts in library_facts
+    python3 tools/library.py check          runs every table that stands in the crates by a reader of its own, from the facts that
+                                            stand there alone, and compares the files with what `write` writes
+    python3 tools/library.py write          writes the facts, the tables and the proofs about them in th_base, th_num and th_count
     python3 tools/library.py count [FILE]   how long each table is; beside it the numbers of FILE, which has `(N lines` a fact
     python3 tools/library.py show NAME      the lines of one table, each with what it computes
     python3 tools/library.py build          the definitions and facts, in the order in which they are made
@@ -16,7 +15,7 @@ import re
 import sys
 
 from library import logic, products, sums, numbers, paths, countable, csets  # noqa: F401 (they run when they are read, in this order)
-from library import checker, rust, sample, sources
+from library import checker, rust, sample
 from library.build import LIBRARY, make
 from library.kernel import Theory
 from library.script import Proof
@@ -29,35 +28,38 @@ TABLES = [table_of(entry) for entry in ENTRIES]
 
 def written():
     """By their paths, the texts of the files that the tool writes."""
-    groups = {name: group for group, name in LIBRARY.stated}
-    texts = {rust.LISTS: rust.lists(LIBRARY.parts), rust.READINGS: rust.readings(LIBRARY.stated),
-             rust.STATEMENTS: rust.statements(LIBRARY.stated, sources.subjects())}
+    of = {entry.name: part.crate for part in LIBRARY.parts for entry in part.proved}
+    texts = {}
+    for crate in dict.fromkeys(part.crate for part in LIBRARY.parts):
+        parts = [part for part in LIBRARY.parts if part.crate == crate]
+        texts[rust.CRATES / crate / "src/facts.rt"] = rust.facts(parts)
+        texts[rust.CRATES / crate / "specs/Facts.antt"] = rust.texts(parts)
     for part in LIBRARY.parts:
         made = [rust.Made(n, entry, entry and table_of(entry)) for _, n, entry in part.steps]
         crate = rust.CRATES / part.crate
-        texts[crate / "src/tables" / (part.name + ".rt")] = rust.source(part, made, groups)
-        texts[crate / "proofs" / (rust.module(part) + ".antt")] = rust.proofs(part, made, groups)
-        texts[crate / ("proofs/building/build_%s/Answers.antt" % part.name)] = rust.answers(part, made)
+        texts[crate / "src/tables" / (part.name + ".rt")] = rust.source(part, made, of)
+        texts[crate / "proofs" / (rust.module(part) + ".antt")] = rust.proofs(part, made, of)
+        texts[crate / ("proofs/building/build_%s/Answers.antt" % part.name)] = rust.answers(part, made, of)
     return texts
 
 
-def runs(tables):
-    """Each table, run over the definitions that are made before it, with its entry."""
+def runs(tables, statements):
+    """Each table, run over the definitions that are made before it and from the statements of its facts, with its entry."""
     theory = Theory()
     for line in LIBRARY.base[:10]:
         make(theory, line)
-    statements = {entry.name: entry.statement for entry in ENTRIES if entry.group}
     proved = set()
     for kind, n, entry in LIBRARY.steps:
         if entry:
-            table = tables.get(rust.constant_name(entry.name))
+            name = rust.constant_name(entry.name)
+            table = tables.get(name)
             if table is None:
-                raise SystemExit("there is no table %s" % rust.constant_name(entry.name))
+                raise SystemExit("there is no table %s" % name)
             late = set(table.facts) - proved
             if late:
                 raise SystemExit("%s takes %s, which comes later" % (entry.name, late))
-            yield entry, table, run_of(theory, [statements[fact] for fact in table.facts])
-            proved.add(entry.name)
+            yield entry, table, run_of(theory, [theory.signature.read_term(statements[fact]) for fact in table.facts])
+            proved.add(name)
         if kind != "fact":
             make(theory, LIBRARY.base[n - 1], entry and entry.result.thm)
 
@@ -90,18 +92,16 @@ def run_of(theory, facts):
 
 def check():
     check_sample()
-    missing = [name for _, name in LIBRARY.stated if name not in LIBRARY.proved]
-    if missing:
-        raise SystemExit("no script proves %s" % ", ".join(missing))
-    tables, wrong = {}, 0
+    tables, statements, wrong = {}, {}, 0
     for part in LIBRARY.parts:
         tables |= rust.tables_in((rust.CRATES / part.crate / "src/tables" / (part.name + ".rt")).read_text())
-    for entry, table, run in runs(tables):
+        statements |= rust.facts_in((rust.CRATES / part.crate / "src/facts.rt").read_text())
+    for entry, table, run in runs(tables, statements):
         try:
             found = str(checker.ran(run, table.text))
         except checker.Fails as fault:
             found = "nothing: %s" % fault
-        stated = "|- " + term_text(entry.result.concl)
+        stated = "|- " + (statements[rust.constant_name(entry.name)] if entry.text else term_text(entry.result.concl))
         if found != stated:
             wrong += 1
             print("%s computes to %s\nwhere %s is stated" % (entry.name, found, stated))
@@ -116,7 +116,7 @@ def count(words):
     other = {}
     if words:
         numbers = re.findall(r"\((\d+) lines", pathlib.Path(words[0]).read_text())
-        other = dict(zip((name for _, name in LIBRARY.stated), map(int, numbers)))
+        other = dict(zip((entry.name for part in LIBRARY.parts for entry in part.proved), map(int, numbers)))
     rows = [("", "theorems", "terms", "types", "bytes") + (("other",) if other else ())]
     for table in TABLES:
         row = (table.name, table.theorems, table.count("term"), table.count("type"), len(table.text))
@@ -127,7 +127,9 @@ def count(words):
 
 
 def show(name):
-    for entry, table, run in runs({rust.constant_name(table.name): table for table in TABLES}):
+    tables = {rust.constant_name(table.name): rust.by_constants(table) for table in TABLES}
+    statements = {rust.constant_name(entry.name): entry.text for entry in ENTRIES}
+    for entry, table, run in runs(tables, statements):
         if name in (entry.name, rust.constant_name(entry.name)):
             for fact, th in zip(table.facts, run.theorems):
                 print("%-22s %s" % (fact, th))

@@ -25,11 +25,11 @@ def make(theory, line, a=None):
 
 @dataclass
 class Entry:
-    """What a proof is for: a fact with its group, or a type that has an element (no group)."""
+    """What a proof is for: a fact, or a type that has an element (no statement)."""
 
     name: str
-    group: str | None
     sentence: str
+    text: str | None  # the statement of a fact, in canonical text
     statement: object  # the term that has to be proved
     result: Line
 
@@ -48,8 +48,8 @@ class Part:
 
     @property
     def proved(self):
-        """The group and the name of each fact that it proves, in order."""
-        return [(entry.group, entry.name) for _, _, entry in self.steps if entry and entry.group]
+        """The facts that it proves, in order."""
+        return [entry for _, _, entry in self.steps if entry and entry.text]
 
     @property
     def lists(self):
@@ -67,7 +67,6 @@ class Library:
 
     def __init__(self):
         self.theory = Theory()
-        self.stated = sources.stated_facts()
         self.base, axioms = sources.base_lines()
         self.parts = []
         self.proved = {}
@@ -100,30 +99,34 @@ class Library:
     def thm(self, name):
         return self.proved[name].result.thm
 
-    def run(self, script, group, sentence, statement):
+    def run(self, script, sentence, text):
         """Runs a script that is named as what it proves: `excluded_middle` is for ExcludedMiddle."""
         name = name_of(script)
+        if name in self.proved:
+            raise Wrong("there are two scripts for %s" % name)
+        statement = text and self.theory.signature.read_term(text)
+        if text and term_text(statement) != text:
+            raise Wrong("%s is stated by %r, which is not canonical: that is %r" % (name, text, term_text(statement)))
         result = script(Proof(self))
         if result.thm.hyps or statement not in (None, result.concl):
             raise Wrong("%s gives %r where %r is stated" % (name, result.thm, statement))
-        self.proved[name] = Entry(name, group, sentence, statement, result)
+        self.proved[name] = Entry(name, sentence, text, statement, result)
         return self.proved[name]
 
-    def fact(self, script):
-        """A script that proves the fact of its name."""
-        group = next((group for group, name in self.stated if name == name_of(script)), None)
-        if group is None:
-            raise Wrong("no fact %s is stated" % name_of(script))
-        sentence, text = self.stated[group, name_of(script)]
-        entry = self.run(script, group, sentence, self.theory.signature.read_term(text))
-        self.step("fact", None, entry)
-        return script
+    def fact(self, text, sentence):
+        """A script that proves the fact of its name: its statement in canonical text, and the sentence that says it."""
+
+        def run(script):
+            self.step("fact", None, self.run(script, sentence, text))
+            return script
+
+        return run
 
     def makes_type(self, n):
         """A script that shows an element of the type of base definition n, which is made then."""
 
         def run(script):
-            entry = self.run(script, None, script.__doc__, None)
+            entry = self.run(script, script.__doc__, None)
             self.make(n, entry.result.thm)
             self.step("type", n, entry)
             return script

@@ -9,7 +9,10 @@ fact = LIBRARY.fact
 LIBRARY.define(44)
 
 
-@fact
+@fact(
+    "!x0:'a -> bool. !x1:num -> 'a. (!x2:'a. x0 x2 ==> (?x3:num. x2 = x1 x3)) ==> countable{'a} x0",
+    "What the numbers enumerate is countable.",
+)
 def countable_enumerated(s):
     """A number is chosen for each element, and it stands for that element alone."""
     s.fix("s:'a -> bool, f:num -> 'a, g:'a -> num, x y:'a")
@@ -24,7 +27,10 @@ def countable_enumerated(s):
     return s.gen("s f", s.disch(enumerated.concl, countable))
 
 
-@fact
+@fact(
+    "?x0:('a -> bool) -> num -> 'a. !x1:'a -> bool. countable{'a} x1 ==> (!x2:'a. x1 x2 ==> (?x3:num. x2 = x0 x1 x3))",
+    "There is a function that enumerates each countable set by numbers.",
+)
 def countable_enumeration(s):
     """Of each set, with the numbering g: n enumerates some element that has the number n."""
     s.fix("s:'a -> bool, g:'a -> num, x:'a")
@@ -49,7 +55,10 @@ def number_of(s, e, countable, member):
     return s.mp(s.spec(s.mp(s.spec(enumeration, countable.concl.arg), countable), member.concl.arg), member)
 
 
-@fact
+@fact(
+    "!x0:'a -> bool. !x1:'a -> bool. countable{'a} x1 ==> ((!x2:'a. x0 x2 ==> x1 x2) ==> countable{'a} x0)",
+    "A subset of a countable set is countable.",
+)
 def countable_subset(s):
     s.fix("s t:'a -> bool, e:('a -> bool) -> num -> 'a, x:'a")
     countable, within = s.assume("countable t"), s.assume("!x. s x ==> t x")
@@ -59,7 +68,7 @@ def countable_subset(s):
     return s.gen("s t", s.disch(countable.concl, s.disch(within.concl, subset)))
 
 
-@fact
+@fact(r"!x0:'a -> bool. countable{'a} (\x1:'a. T) ==> countable{'a} x0", "Each set of elements of a countable type is countable.")
 def countable_on_type(s):
     s.fix("s:'a -> bool, x:'a")
     countable = s.assume(r"countable (\x:'a. T)")
@@ -68,35 +77,35 @@ def countable_on_type(s):
     return s.gen("s", s.disch(countable.concl, subset))
 
 
-@fact
+@fact(r"countable{num} (\x0:num. T)", "The numbers are countable.")
 def countable_num(s):
     s.fix("x:num")
     number = s.gen("x", s.disch("T", s.ex_i("?n. x = n", "x", s.refl("x"))))
     return s.mp(s.norm(s.by("CountableEnumerated", r"\x:num. T", r"\n:num. n")), number)
 
 
-@fact
+@fact(r"countable{'a} (\x0:'a. F)", "The empty set is countable.")
 def countable_empty(s):
     s.fix("f:num -> 'a, x:'a")
     number = s.gen("x", s.disch("F", s.anything("?n. x = f n", s.assume("F"))))
     return s.mp(s.norm(s.by("CountableEnumerated", r"\x:'a. F", "f")), number)
 
 
-@fact
+@fact(r"!x0:'a. countable{'a} (\x1:'a. x1 = x0)", "A set of one element is countable.")
 def countable_singleton(s):
     s.fix("a x:'a")
     number = s.gen("x", s.disch("x = a", s.ex_i("?n:num. x = a", "0", s.assume("x = a"))))
     return s.gen("a", s.mp(s.norm(s.by("CountableEnumerated", r"\x. x = a", r"\n:num. a")), number))
 
 
-@fact
+@fact(r"countable{unit} (\x0:unit. T)", "Unit is countable.")
 def countable_unit(s):
     s.fix("u x:unit")
     all_equal = s.abs("x", s.eqt_i(s.by("UnitEqual", "x", "u")))
     return s.eq_mp(s.of("countable{unit}", all_equal), s.by("CountableSingleton", "u"))
 
 
-@fact
+@fact(r"countable{bool} (\x0:bool. T)", "The truth values are countable.")
 def countable_bool(s):
     """The number n stands for the truth value of `n = 0`."""
     s.fix("p:bool, n:num")
@@ -108,7 +117,10 @@ def countable_bool(s):
     return s.mp(s.norm(s.by("CountableEnumerated", r"\p:bool. T", r"\n. n = 0")), number)
 
 
-@fact
+@fact(
+    "!x0:'a -> bool. !x1:num -> num -> 'a. (!x2:'a. x0 x2 ==> (?x3:num. ?x4:num. x2 = x1 x3 x4)) ==> countable{'a} x0",
+    "What the pairs of numbers enumerate is countable.",
+)
 def countable_enumerated_twice(s):
     """The path code of m and n stands for the value at m and n."""
     s.fix("s:'a -> bool, f:num -> num -> 'a, h:num -> 'a, x z:'a, m n:num")
@@ -122,7 +134,11 @@ def countable_enumerated_twice(s):
     return s.gen("s f", s.disch(enumerated.concl, s.choose("h", recursion, countable)))
 
 
-@fact
+@fact(
+    "!x0:'a -> bool. !x1:'a -> 'b -> bool. countable{'a} x0 ==> ((!x2:'a. x0 x2 ==> countable{'b} (x1 x2)) ==> countable{'b} "
+    r"(\x2:'b. ?x3:'a. x0 x3 /\ x1 x3 x2))",
+    "The union of countably many countable sets is countable.",
+)
 def countable_union(s):
     """The numbers m and n stand for the n-th element of the set of the m-th index."""
     s.fix("s:'a -> bool, i:'a -> 'b -> bool, e:('a -> bool) -> num -> 'a, d:('b -> bool) -> num -> 'b")
@@ -141,7 +157,10 @@ def countable_union(s):
     return s.gen("s i", s.disch(indices.concl, s.disch(each.concl, union)))
 
 
-@fact
+@fact(
+    r"!x0:'a -> bool. !x1:'a -> bool. countable{'a} x0 ==> (countable{'a} x1 ==> countable{'a} (\x2:'a. x0 x2 \/ x1 x2))",
+    "The union of two countable sets is countable.",
+)
 def countable_union_of_two(s):
     """The numbers 0 and n stand for the n-th element of the first set, other m and n for that of the second."""
     s.fix("s t:'a -> bool, e:('a -> bool) -> num -> 'a, f:num -> num -> 'a, x:'a, m:num")
@@ -159,7 +178,10 @@ def countable_union_of_two(s):
     return s.gen("s t", s.disch(first.concl, s.disch(second.concl, union)))
 
 
-@fact
+@fact(
+    r"!x0:'a -> bool. !x1:'a -> 'b. countable{'a} x0 ==> countable{'b} (\x2:'b. ?x3:'a. x0 x3 /\ (x2 = x1 x3))",
+    "The image of a countable set is countable.",
+)
 def countable_image(s):
     """The image is the union of the sets of one value."""
     s.fix("s:'a -> bool, f:'a -> 'b, x:'a")
@@ -169,7 +191,10 @@ def countable_image(s):
     return s.gen("s f", s.disch(countable.concl, image))
 
 
-@fact
+@fact(
+    r"!x0:'a -> 'b. countable{'a} (\x1:'a. T) ==> countable{'b} (\x1:'b. ?x2:'a. x1 = x0 x2)",
+    "The values of a function on a countable type are countable.",
+)
 def countable_range(s):
     s.fix("f:'a -> 'b, x:'a, y:'b")
     countable = s.assume(r"countable (\x:'a. T)")
@@ -181,7 +206,11 @@ def countable_range(s):
     return s.gen("f", s.disch(countable.concl, subset))
 
 
-@fact
+@fact(
+    "!x0:'a -> bool. !x1:'b -> bool. !x2:'a -> 'b. countable{'b} x1 ==> ((!x3:'a. x0 x3 ==> x1 (x2 x3)) ==> ((!x3:'a. !x4:'a. x0 "
+    "x3 ==> (x0 x4 ==> ((x2 x3 = x2 x4) ==> (x3 = x4)))) ==> countable{'a} x0))",
+    "What is mapped injectively into a countable set is countable.",
+)
 def countable_injection(s):
     """The set is part of the image of the countable set under an inverse of k."""
     s.fix("s:'a -> bool, t:'b -> bool, k:'a -> 'b, x:'a")
@@ -201,7 +230,11 @@ def countable_injection(s):
     return s.gen("s t k", s.disch(countable.concl, s.disch(within.concl, s.disch(injective.concl, subset))))
 
 
-@fact
+@fact(
+    r"!x0:'a -> bool. !x1:'b -> bool. countable{'a} x0 ==> (countable{'b} x1 ==> countable{('a,'b) prod} (\x2:('a,'b) prod. x0 "
+    r"(fst{'a,'b} x2) /\ x1 (snd{'a,'b} x2)))",
+    "The pairs from two countable sets are countable.",
+)
 def countable_product(s):
     """The pairs are the union, over a in the first set, of the images of the second set under pairing with a."""
     s.fix("s:'a -> bool, t:'b -> bool, a:'a, p:('a,'b) prod")
@@ -218,7 +251,10 @@ def countable_product(s):
     return s.gen("s t", s.disch(first.concl, s.disch(second.concl, pairs)))
 
 
-@fact
+@fact(
+    r"countable{'a} (\x0:'a. T) ==> (countable{'b} (\x0:'b. T) ==> countable{('a,'b) prod} (\x0:('a,'b) prod. T))",
+    "The product of countable types is countable.",
+)
 def countable_prod(s):
     first, second = s.assume(r"countable (\x:'a. T)"), s.assume(r"countable (\y:'b. T)")
     pairs = s.norm(s.by("CountableProduct", r"\x:'a. T", r"\y:'b. T"))
@@ -227,7 +263,10 @@ def countable_prod(s):
     return s.disch(first.concl, s.disch(second.concl, pairs))
 
 
-@fact
+@fact(
+    r"countable{'a} (\x0:'a. T) ==> (countable{'b} (\x0:'b. T) ==> countable{('a,'b) sum} (\x0:('a,'b) sum. T))",
+    "The sum of countable types is countable.",
+)
 def countable_sum(s):
     """The sum is the union of the values of inl and of inr."""
     s.fix("p:('a,'b) sum")

@@ -17,26 +17,32 @@ def cset_inhabited(s):
     return s.back(s.unfold(r"countable (\x:'a. F)"), injection)
 
 
-@fact
+@fact("!x0:'a cset. cset.abs{'a} (cset.rep{'a} x0) = x0", "A countable set is the one that its representation stands for.")
 def cset_abs_rep(s):
     s.fix("a:'a cset")
     return s.gen("a", s.type_abs("cset"))
 
 
-@fact
+@fact(
+    "!x0:'a -> bool. countable{'a} x0 = (cset.rep{'a} (cset.abs{'a} x0) = x0)",
+    "A predicate represents a countable set where it is countable.",
+)
 def cset_rep_abs(s):
     s.fix("r:'a -> bool")
     return s.gen("r", s.type_rep("cset"))
 
 
-@fact
+@fact("!x0:'a cset. countable{'a} (cset.rep{'a} x0)", "The members of a countable set are countable.")
 def cset_countable(s):
     s.fix("c:'a cset")
     same = s.of("cset.rep", s.by("CsetAbsRep", "c"))
     return s.gen("c", s.back(s.by("CsetRepAbs", "cset.rep c"), same))
 
 
-@fact
+@fact(
+    "!x0:'a cset. !x1:'a cset. (!x2:'a. cset.rep{'a} x0 x2 = cset.rep{'a} x1 x2) ==> (x0 = x1)",
+    "Countable sets with the same members are equal.",
+)
 def cset_extensionality(s):
     s.fix("c d:'a cset")
     agree = s.assume("!x. cset.rep c x = cset.rep d x")
@@ -45,7 +51,10 @@ def cset_extensionality(s):
     return s.gen("c d", s.disch(agree.concl, equal))
 
 
-@fact
+@fact(
+    "!x0:'a -> bool. countable{'a} x0 ==> (!x1:'a. cset.rep{'a} (cset.abs{'a} x0) x1 = x0 x1)",
+    "The set of a countable predicate has the members of the predicate.",
+)
 def cset_member(s):
     s.fix("s:'a -> bool, x:'a")
     represents = s.eq_mp(s.by("CsetRepAbs", "s"), s.assume("countable s"))
@@ -55,7 +64,10 @@ def cset_member(s):
 LIBRARY.define(46, 47)
 
 
-@fact
+@fact(
+    r"!x0:'a -> 'b. !x1:'a cset. !x2:'b. cset.rep{'b} (cset.map{'a,'b} x0 x1) x2 = (?x3:'a. cset.rep{'a} x1 x3 /\ (x2 = x0 x3))",
+    "The members of an image.",
+)
 def cset_map_member(s):
     s.fix("f:'a -> 'b, c:'a cset, y:'b")
     countable = s.mp(s.by("CountableImage", "cset.rep c", "f"), s.by("CsetCountable", "c"))
@@ -64,7 +76,11 @@ def cset_map_member(s):
     return s.gen("f c y", s.rewrite(member, s.sym(s.unfold("cset.map f c"))))
 
 
-@fact
+@fact(
+    r"!x0:'a -> 'b. !x1:'a cset. !x2:'b cset. (!x3:'b. (?x4:'a. cset.rep{'a} x1 x4 /\ (x3 = x0 x4)) = cset.rep{'b} x2 x3) ==> "
+    "(cset.map{'a,'b} x0 x1 = x2)",
+    "The image is the countable set of the values.",
+)
 def cset_map_is(s):
     s.fix("f:'a -> 'b, c:'a cset, d:'b cset, y:'b")
     values = s.assume(r"!y. (?x. cset.rep c x /\ y = f x) = cset.rep d y")
@@ -73,7 +89,11 @@ def cset_map_is(s):
     return s.gen("f c d", s.disch(values.concl, equal))
 
 
-@fact
+@fact(
+    r"!x0:'a -> 'b. !x1:'a cset. !x2:'b -> bool. (?x3:'b. cset.rep{'b} (cset.map{'a,'b} x0 x1) x3 /\ x2 x3) = (?x3:'a. cset.rep{'a} "
+    r"x1 x3 /\ x2 (x0 x3))",
+    "There is one of a kind in an image where there is one in the set whose value is of the kind.",
+)
 def cset_map_exists(s):
     s.fix("f:'a -> 'b, c:'a cset, P:'b -> bool, x:'a, y:'b")
     image = s.assume(r"cset.rep (cset.map f c) y /\ P y")
@@ -91,7 +111,7 @@ def cset_map_exists(s):
     return s.gen("f c P", s.iff(there, back))
 
 
-@fact
+@fact("!x0:'a cset. cset.map{'a,'a} id{'a} x0 = x0", "Functor law map_id of cset.")
 def cset_map_id(s):
     s.fix("c:'a cset, x y:'a")
     value = s.assume(r"cset.rep c x /\ y = id x")
@@ -103,7 +123,10 @@ def cset_map_id(s):
     return s.gen("c", s.mp(s.by("CsetMapIs", "id{'a}", "c", "c"), values))
 
 
-@fact
+@fact(
+    r"!x0:'a -> 'b. !x1:'b -> 'c. !x2:'a cset. cset.map{'b,'c} x1 (cset.map{'a,'b} x0 x2) = cset.map{'a,'c} (\x3:'a. x1 (x0 x3)) x2",
+    "Functor law map_comp of cset.",
+)
 def cset_map_comp(s):
     s.fix("f:'a -> 'b, g:'b -> 'c, c:'a cset, z:'c")
     through = s.norm(s.by("CsetMapExists", "f", "c", r"\y. z = g y"))
@@ -115,29 +138,36 @@ def cset_map_comp(s):
 LIBRARY.define(48)
 
 
-@fact
+@fact("cset.set1{'a} = cset.rep{'a}", "The set function is the representation.")
 def cset_set_is_rep(s):
     return s.trans(s.definition("cset.set1"), s.eta_conv(r"\c:'a cset. cset.rep c"))
 
 
-@fact
+@fact("!x0:'a cset. !x1:'a. cset.set1{'a} x0 x1 = cset.rep{'a} x0 x1", "The set function gives the members.")
 def cset_set_member(s):
     s.fix("c:'a cset, x:'a")
     return s.gen("c x", s.unfold("cset.set1 c x"))
 
 
-@fact
+@fact(
+    r"!x0:'a -> 'b. !x1:'a cset. !x2:'b. cset.set1{'b} (cset.map{'a,'b} x0 x1) x2 = (?x3:'a. cset.set1{'a} x1 x3 /\ (x2 = x0 x3))",
+    "Functor law set1_map of cset.",
+)
 def cset_set_map(s):
     is_set = s.sym(s.by("CsetSetIsRep"))
     return s.rewrite(s.by("CsetMapMember"), is_set, s.inst_type(is_set, a="'b"))
 
 
-@fact
+@fact("!x0:'a cset. countable{'a} (cset.set1{'a} x0)", "Functor law set1_count of cset.")
 def cset_set_count(s):
     return s.rewrite(s.by("CsetCountable"), s.sym(s.by("CsetSetIsRep")))
 
 
-@fact
+@fact(
+    "!x0:'a -> 'b. !x1:'a -> 'b. !x2:'a cset. (!x3:'a. cset.set1{'a} x2 x3 ==> (x0 x3 = x1 x3)) ==> (cset.map{'a,'b} x0 x2 = "
+    "cset.map{'a,'b} x1 x2)",
+    "Functor law map_cong of cset.",
+)
 def cset_map_cong(s):
     s.fix("f g:'a -> 'b, c:'a cset, x:'a, y:'b")
     agree = s.assume("!z. cset.set1 c z ==> f z = g z")
@@ -154,7 +184,11 @@ def cset_map_cong(s):
 LIBRARY.define(49)
 
 
-@fact
+@fact(
+    "!x0:'b -> 'c -> bool. !x1:'a -> 'b. !x2:'a -> 'c. !x3:'a cset. (!x4:'a. cset.rep{'a} x3 x4 ==> x0 (x1 x4) (x2 x4)) ==> "
+    r"(!x4:'b. cset.rep{'b} (cset.map{'a,'b} x1 x3) x4 ==> (?x5:'c. cset.rep{'c} (cset.map{'a,'c} x2 x3) x5 /\ x0 x4 x5))",
+    "Where two functions are related on a set, each member of the one image has a related member of the other.",
+)
 def cset_maps_relate_each(s):
     s.fix("r:'b -> 'c -> bool, f:'a -> 'b, g:'a -> 'c, w:'a cset, p:'a, x:'b")
     related = s.assume("!p. cset.rep w p ==> r (f p) (g p)")
@@ -168,7 +202,11 @@ def cset_maps_relate_each(s):
     return s.gen("r f g w", s.disch(related.concl, s.gen("x", s.disch(image.concl, other))))
 
 
-@fact
+@fact(
+    "!x0:'b -> 'c -> bool. !x1:'a -> 'b. !x2:'a -> 'c. !x3:'a cset. (!x4:'a. cset.rep{'a} x3 x4 ==> x0 (x1 x4) (x2 x4)) ==> "
+    "cset.rel{'b,'c} x0 (cset.map{'a,'b} x1 x3) (cset.map{'a,'c} x2 x3)",
+    "Functions that are related on a set give related images.",
+)
 def cset_maps_related(s):
     s.fix("r:'b -> 'c -> bool, f:'a -> 'b, g:'a -> 'c, w:'a cset")
     related = s.assume("!p. cset.rep w p ==> r (f p) (g p)")
@@ -182,7 +220,11 @@ def cset_maps_related(s):
 PAIR = r"(cset.rep c (fst p) /\ cset.rep d (snd p)) /\ r (fst p) (snd p)"
 
 
-@fact
+@fact(
+    r"!x0:'a -> 'b -> bool. !x1:'a cset. !x2:'b cset. ?x3:('a,'b) prod cset. cset.rep{('a,'b) prod} x3 = (\x4:('a,'b) prod. "
+    r"(cset.rep{'a} x1 (fst{'a,'b} x4) /\ cset.rep{'b} x2 (snd{'a,'b} x4)) /\ x0 (fst{'a,'b} x4) (snd{'a,'b} x4))",
+    "The related pairs of two countable sets are a countable set.",
+)
 def cset_related_pairs(s):
     s.fix("r:'a -> 'b -> bool, c:'a cset, d:'b cset, p:('a,'b) prod")
     s.let("pairs", r"\p. cset.rep c (fst p) /\ cset.rep d (snd p)")
@@ -196,7 +238,12 @@ def cset_related_pairs(s):
     return s.gen("r c d", s.ex_i("?w. cset.rep w = related", "cset.abs related", represents))
 
 
-@fact
+@fact(
+    "!x0:'a -> 'b -> bool. !x1:'a cset. !x2:'b cset. cset.rel{'a,'b} x0 x1 x2 ==> (!x3:'a. (?x4:('a,'b) prod. ((cset.rep{'a} x1 "
+    r"(fst{'a,'b} x4) /\ cset.rep{'b} x2 (snd{'a,'b} x4)) /\ x0 (fst{'a,'b} x4) (snd{'a,'b} x4)) /\ (x3 = fst{'a,'b} x4)) = "
+    "cset.rep{'a} x1 x3)",
+    "The first components of the related pairs of related sets are the members of the first set.",
+)
 def cset_rel_firsts(s):
     s.fix("r:'a -> 'b -> bool, c:'a cset, d:'b cset, p:('a,'b) prod, x v:'a, y w:'b")
     component = s.assume(r"(%s) /\ x = fst p" % PAIR)
@@ -214,7 +261,12 @@ def cset_rel_firsts(s):
     return s.gen("r c d", s.disch(related.concl, s.gen("x", s.iff(there, back))))
 
 
-@fact
+@fact(
+    "!x0:'a -> 'b -> bool. !x1:'a cset. !x2:'b cset. cset.rel{'a,'b} x0 x1 x2 ==> (!x3:'b. (?x4:('a,'b) prod. ((cset.rep{'a} x1 "
+    r"(fst{'a,'b} x4) /\ cset.rep{'b} x2 (snd{'a,'b} x4)) /\ x0 (fst{'a,'b} x4) (snd{'a,'b} x4)) /\ (x3 = snd{'a,'b} x4)) = "
+    "cset.rep{'b} x2 x3)",
+    "The second components of the related pairs of related sets are the members of the second set.",
+)
 def cset_rel_seconds(s):
     s.fix("r:'a -> 'b -> bool, c:'a cset, d:'b cset, p:('a,'b) prod, x v:'a, y w:'b")
     component = s.assume(r"(%s) /\ y = snd p" % PAIR)
@@ -232,7 +284,13 @@ def cset_rel_seconds(s):
     return s.gen("r c d", s.disch(related.concl, s.gen("y", s.iff(there, back))))
 
 
-@fact
+@fact(
+    r"!x0:'a -> 'b -> bool. !x1:'a cset. !x2:'b cset. !x3:('a,'b) prod cset. (cset.rep{('a,'b) prod} x3 = (\x4:('a,'b) prod. "
+    r"(cset.rep{'a} x1 (fst{'a,'b} x4) /\ cset.rep{'b} x2 (snd{'a,'b} x4)) /\ x0 (fst{'a,'b} x4) (snd{'a,'b} x4))) ==> "
+    r"(cset.rel{'a,'b} x0 x1 x2 ==> ((!x4:('a,'b) prod. cset.rep{('a,'b) prod} x3 x4 ==> x0 (fst{'a,'b} x4) (snd{'a,'b} x4)) /\ "
+    r"((cset.map{('a,'b) prod,'a} fst{'a,'b} x3 = x1) /\ (cset.map{('a,'b) prod,'b} snd{'a,'b} x3 = x2))))",
+    "Related sets are the images of the set of their related pairs.",
+)
 def cset_rel_of_pairs(s):
     s.fix("r:'a -> 'b -> bool, c:'a cset, d:'b cset, w:('a,'b) prod cset, p:('a,'b) prod")
     pairs, related = s.assume(r"cset.rep w = (\p. %s)" % PAIR), s.assume("cset.rel r c d")
@@ -247,7 +305,12 @@ def cset_rel_of_pairs(s):
     return s.gen("r c d w", s.disch(pairs.concl, s.disch(related.concl, images)))
 
 
-@fact
+@fact(
+    "!x0:'a -> 'b -> bool. !x1:'a cset. !x2:'b cset. cset.rel{'a,'b} x0 x1 x2 = (?x3:('a,'b) prod cset. (!x4:('a,'b) prod. "
+    r"cset.set1{('a,'b) prod} x3 x4 ==> x0 (fst{'a,'b} x4) (snd{'a,'b} x4)) /\ ((cset.map{('a,'b) prod,'a} fst{'a,'b} x3 = x1) /\ "
+    "(cset.map{('a,'b) prod,'b} snd{'a,'b} x3 = x2)))",
+    "Functor law rel_in of cset.",
+)
 def cset_rel_in(s):
     s.fix("r:'a -> 'b -> bool, c:'a cset, d:'b cset, w:('a,'b) prod cset")
     images = r"(!p. cset.rep w p ==> r (fst p) (snd p)) /\ (cset.map fst w = c /\ cset.map snd w = d)"
@@ -263,7 +326,12 @@ def cset_rel_in(s):
     return s.rewrite(s.gen("r c d", s.iff(there, back)), is_set)
 
 
-@fact
+@fact(
+    "!x0:'b -> 'c -> bool. !x1:'c -> 'd -> bool. !x2:'a -> 'b. !x3:'a -> 'd. !x4:'a cset. (!x5:'a. cset.rep{'a} x4 x5 ==> (?x6:'c. "
+    r"x0 (x2 x5) x6 /\ x1 x6 (x3 x5))) ==> (?x5:'c cset. cset.rel{'b,'c} x0 (cset.map{'a,'b} x2 x4) x5 /\ cset.rel{'c,'d} x1 x5 "
+    "(cset.map{'a,'d} x3 x4))",
+    "Where a composition relates the values of two functions on a set, there is a set between the images.",
+)
 def cset_rel_between(s):
     """The set between is the image under a choice k of what is between the values."""
     s.fix("r:'b -> 'c -> bool, s:'c -> 'd -> bool, f:'a -> 'b, g:'a -> 'd, k:'a -> 'c, u:'a cset, p:'a")
@@ -281,7 +349,11 @@ def cset_rel_between(s):
     return s.gen("r s f g u", s.disch(each.concl, between))
 
 
-@fact
+@fact(
+    r"!x0:'a -> 'b -> bool. !x1:'b -> 'c -> bool. !x2:'a cset. !x3:'c cset. cset.rel{'a,'c} (\x4:'a. \x5:'c. ?x6:'b. x0 x4 x6 /\ x1 "
+    r"x6 x5) x2 x3 ==> (?x4:'b cset. cset.rel{'a,'b} x0 x2 x4 /\ cset.rel{'b,'c} x1 x4 x3)",
+    "Where a composition relates two sets, there is a set between them.",
+)
 def cset_rel_split(s):
     """Both sets are images of one set of pairs, by the law rel_in."""
     s.fix("r:'a -> 'b -> bool, s:'b -> 'c -> bool, c:'a cset, d:'c cset, u:('a,'c) prod cset")
@@ -297,7 +369,11 @@ def cset_rel_split(s):
     return s.gen("r s c d", s.disch(related.concl, between))
 
 
-@fact
+@fact(
+    r"!x0:'a -> 'b -> bool. !x1:'b -> 'c -> bool. !x2:'a cset. !x3:'b cset. !x4:'c cset. (cset.rel{'a,'b} x0 x2 x3 /\ "
+    r"cset.rel{'b,'c} x1 x3 x4) ==> (!x5:'a. cset.rep{'a} x2 x5 ==> (?x6:'c. cset.rep{'c} x4 x6 /\ (?x7:'b. x0 x5 x7 /\ x1 x7 x6)))",
+    "Of three sets in a row, each member of the first has one of the last that the composition relates it to.",
+)
 def cset_rel_forwards(s):
     s.fix("r:'a -> 'b -> bool, s:'b -> 'c -> bool, c:'a cset, w:'b cset, d:'c cset, x:'a, y:'b, z:'c")
     both = s.assume(r"cset.rel r c w /\ cset.rel s w d")
@@ -313,7 +389,11 @@ def cset_rel_forwards(s):
     return s.gen("r s c w d", s.disch(both.concl, s.gen("x", s.disch(member.concl, composed))))
 
 
-@fact
+@fact(
+    r"!x0:'a -> 'b -> bool. !x1:'b -> 'c -> bool. !x2:'a cset. !x3:'b cset. !x4:'c cset. (cset.rel{'a,'b} x0 x2 x3 /\ "
+    r"cset.rel{'b,'c} x1 x3 x4) ==> (!x5:'c. cset.rep{'c} x4 x5 ==> (?x6:'a. cset.rep{'a} x2 x6 /\ (?x7:'b. x0 x6 x7 /\ x1 x7 x5)))",
+    "Of three sets in a row, each member of the last has one of the first that the composition relates to it.",
+)
 def cset_rel_backwards(s):
     s.fix("r:'a -> 'b -> bool, s:'b -> 'c -> bool, c:'a cset, w:'b cset, d:'c cset, x:'a, y:'b, z:'c")
     both = s.assume(r"cset.rel r c w /\ cset.rel s w d")
@@ -329,7 +409,11 @@ def cset_rel_backwards(s):
     return s.gen("r s c w d", s.disch(both.concl, s.gen("z", s.disch(member.concl, composed))))
 
 
-@fact
+@fact(
+    r"!x0:'a -> 'b -> bool. !x1:'b -> 'c -> bool. !x2:'a cset. !x3:'c cset. cset.rel{'a,'c} (\x4:'a. \x5:'c. ?x6:'b. x0 x4 x6 /\ x1 "
+    r"x6 x5) x2 x3 = (?x4:'b cset. cset.rel{'a,'b} x0 x2 x4 /\ cset.rel{'b,'c} x1 x4 x3)",
+    "Functor law rel_comp of cset.",
+)
 def cset_rel_comp(s):
     s.fix("r:'a -> 'b -> bool, s:'b -> 'c -> bool, c:'a cset, d:'c cset, w:'b cset")
     related = s.assume(r"cset.rel (\x z. ?y. r x y /\ s y z) c d")

@@ -7,12 +7,12 @@ LIBRARY.begin("th_base", "logic", "logic_facts", "logic, choice, the identity an
 fact = LIBRARY.fact
 
 
-@fact
+@fact("T", "The truth value T holds.")
 def truth(s):
     return s.eqt_e(s.refl("T"))
 
 
-@fact
+@fact("!x0:'a -> 'b. !x1:'a -> 'b. (!x2:'a. x0 x2 = x1 x2) ==> (x0 = x1)", "Functions that agree at each argument are equal.")
 def extensionality(s):
     s.fix("f g:'a -> 'b, x:'a")
     agree = s.assume("!x. f x = g x")
@@ -21,7 +21,7 @@ def extensionality(s):
     return s.gen("f g", s.disch(agree.concl, equal))
 
 
-@fact
+@fact(r"!x0:bool. x0 \/ (~ x0)", "A truth value or its negation holds.")
 def excluded_middle(s):
     """Diaconescu: choose y with `y = T \\/ p`, and y with `y = F \\/ p`. Where p holds, the two predicates are one, and so T would
     be F if both first cases held."""
@@ -37,7 +37,7 @@ def excluded_middle(s):
     return s.gen("p", s.disj_e(s.inst(chosen, c="T"), s.disj_e(s.inst(chosen, c="F"), no, yes), yes))
 
 
-@fact
+@fact("!x0:bool. ((~ x0) ==> F) ==> x0", "What cannot be false holds.")
 def contradiction(s):
     s.fix("p:bool")
     never = s.assume("~ p ==> F")
@@ -46,7 +46,7 @@ def contradiction(s):
     return s.gen("p", s.disch(never.concl, holds))
 
 
-@fact
+@fact("!x0:bool. (~ (~ x0)) = x0", "A truth value is its double negation.")
 def double_negation(s):
     s.fix("p:bool")
     there = s.mp(s.by("Contradiction", "p"), s.not_e(s.assume("~ ~ p")))
@@ -54,7 +54,7 @@ def double_negation(s):
     return s.gen("p", s.iff(there, back))
 
 
-@fact
+@fact(r"!x0:bool. !x1:bool. (~ (x0 \/ x1)) = ((~ x0) /\ (~ x1))", "De Morgan: a disjunction fails where both of its sides do.")
 def not_disj(s):
     s.fix("p q:bool")
     neither = s.assume(r"~ (p \/ q)")
@@ -66,7 +66,7 @@ def not_disj(s):
     return s.gen("p q", s.iff(s.conj_i(no_p, no_q), s.deny(one.concl, cases)))
 
 
-@fact
+@fact(r"!x0:bool. !x1:bool. (~ (x0 /\ x1)) = ((~ x0) \/ (~ x1))", "De Morgan: a conjunction fails where one of its sides does.")
 def not_conj(s):
     s.fix("p q:bool")
     neither = s.by("NotDisj", "~ p", "~ q")
@@ -74,7 +74,7 @@ def not_conj(s):
     return s.gen("p q", s.trans(s.sym(s.of("not", neither)), s.by("DoubleNegation", r"~ p \/ ~ q")))
 
 
-@fact
+@fact(r"!x0:bool. !x1:bool. (x0 ==> x1) = ((~ x0) \/ x1)", "An implication holds where its premise fails or its conclusion holds.")
 def imp_as_disj(s):
     s.fix("p q:bool")
     implied = s.disj_r("~ p", s.mp(s.assume("p ==> q"), s.assume("p")))
@@ -84,14 +84,17 @@ def imp_as_disj(s):
     return s.gen("p q", s.iff(there, back))
 
 
-@fact
+@fact(
+    r"!x0:bool. !x1:bool. (~ (x0 ==> x1)) = (x0 /\ (~ x1))",
+    "An implication fails where its premise holds and its conclusion does not.",
+)
 def not_imp(s):
     s.fix("p q:bool")
     fails = s.trans(s.of("not", s.by("ImpAsDisj", "p", "q")), s.by("NotDisj", "~ p", "q"))
     return s.gen("p q", s.rewrite(fails, s.by("DoubleNegation", "p")))
 
 
-@fact
+@fact("!x0:'a -> bool. (~ (?x1:'a. x0 x1)) = (!x1:'a. ~ x0 x1)", "Where there is none, all are not.")
 def not_ex(s):
     s.fix("P:'a -> bool, x:'a")
     here = s.assume("P x")
@@ -102,7 +105,7 @@ def not_ex(s):
     return s.gen("P", s.iff(there, back))
 
 
-@fact
+@fact("!x0:'a -> bool. (~ (!x1:'a. x0 x1)) = (?x1:'a. ~ x0 x1)", "Where not all are, there is one that is not.")
 def not_all(s):
     s.fix("P:'a -> bool, x:'a")
     none = s.norm(s.by("NotEx", r"\x. ~ P x"))
@@ -111,7 +114,7 @@ def not_all(s):
     return s.gen("P", s.trans(s.sym(some), s.by("DoubleNegation", "?x. ~ P x")))
 
 
-@fact
+@fact("!x0:bool. (~ x0) = (x0 = F)", "A negation says that the truth value is F.")
 def not_as_equation(s):
     s.fix("p:bool")
     no = s.absurd(s.assume("~ p"), s.assume("p"))
@@ -120,7 +123,7 @@ def not_as_equation(s):
     return s.gen("p", s.iff(there, back))
 
 
-@fact
+@fact("!x0:'a -> 'b. !x1:'a -> 'b. (~ (x0 = x1)) = (?x2:'a. ~ (x0 x2 = x1 x2))", "Different functions differ at some argument.")
 def functions_differ(s):
     s.fix("f g:'a -> 'b, x:'a")
     agree = s.gen("x", s.to(s.assume("f = g"), "x"))
@@ -129,7 +132,10 @@ def functions_differ(s):
     return s.gen("f g", s.trans(differ, s.norm(s.by("NotAll", r"\x. f x = g x"))))
 
 
-@fact
+@fact(
+    r"!x0:bool. !x1:bool. (~ (x0 = x1)) = ((x0 /\ (~ x1)) \/ ((~ x0) /\ x1))",
+    "Of two different truth values one holds and the other does not.",
+)
 def truth_values_differ(s):
     s.fix("p q r:bool")
     equal = s.assume("p = q")
@@ -145,14 +151,17 @@ def truth_values_differ(s):
     return s.gen("p q", s.rewrite(differ, s.by("NotImp", "p", "q"), s.by("NotImp", "q", "p"), turned))
 
 
-@fact
+@fact("!x0:'a -> bool. (?x1:'a. x0 x1) ==> x0 (some{'a} x0)", "Where there is one, the chosen one is.")
 def some_holds(s):
     s.fix("P:'a -> bool, x:'a")
     chosen = s.mp(s.spec(s.axiom(2), "P", "x"), s.assume("P x"))
     return s.gen("P", s.disch("?x. P x", s.open("x", "?x. P x", chosen)))
 
 
-@fact
+@fact(
+    "!x0:'a -> 'b -> bool. (!x1:'a. ?x2:'b. x0 x1 x2) ==> (?x1:'a -> 'b. !x2:'a. x0 x2 (x1 x2))",
+    "Where each argument has a value, there is a function that chooses one.",
+)
 def choice(s):
     s.fix("R:'a -> 'b -> bool, x:'a")
     each = s.assume("!x. ?y. R x y")
@@ -162,7 +171,11 @@ def choice(s):
     return s.gen("R", s.disch(each.concl, function))
 
 
-@fact
+@fact(
+    "!x0:'a -> bool. !x1:'a -> 'b -> bool. (!x2:'a. x0 x2 ==> (?x3:'b. x1 x2 x3)) ==> (?x2:'a -> 'b. !x3:'a. x0 x3 ==> x1 x3 (x2 "
+    "x3))",
+    "The same for the arguments of a set.",
+)
 def choice_on(s):
     s.fix("S:'a -> bool, R:'a -> 'b -> bool, x:'a")
     each = s.assume("!x. S x ==> (?y. R x y)")
@@ -173,7 +186,10 @@ def choice_on(s):
     return s.gen("S R", s.disch(each.concl, function))
 
 
-@fact
+@fact(
+    "!x0:'a -> bool. !x1:'a. x0 x1 ==> ((!x2:'a. x0 x2 ==> (x2 = x1)) ==> (some{'a} x0 = x1))",
+    "The chosen one of a set with one element is that element.",
+)
 def unique_choice(s):
     s.fix("P:'a -> bool, a:'a")
     here, only = s.assume("P a"), s.assume("!x. P x ==> x = a")
@@ -185,7 +201,7 @@ def unique_choice(s):
 LIBRARY.define(11)
 
 
-@fact
+@fact("!x0:'a. id{'a} x0 = x0", "The identity gives its argument.")
 def identity(s):
     s.fix("x:'a")
     return s.gen("x", s.unfold("id x"))
@@ -196,7 +212,7 @@ LIBRARY.define(12)
 CONDITIONAL = r"\z. (c = T ==> z = x) /\ (c = F ==> z = y)"
 
 
-@fact
+@fact("!x0:bool. !x1:'a. !x2:'a. x0 ==> (if{'a} x0 x1 x2 = x1)", "A conditional gives its first value where its condition holds.")
 def if_true(s):
     s.fix("c:bool, x y z:'a")
     c = s.assume("c")
@@ -209,7 +225,7 @@ def if_true(s):
     return s.gen("c x y", s.disch("c", s.trans(s.unfold("if c x y"), chosen)))
 
 
-@fact
+@fact("!x0:bool. !x1:'a. !x2:'a. (~ x0) ==> (if{'a} x0 x1 x2 = x2)", "A conditional gives its second value where its condition fails.")
 def if_false(s):
     s.fix("c:bool, x y z:'a")
     fails = s.assume("~ c")

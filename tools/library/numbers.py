@@ -11,7 +11,7 @@ makes_type = LIBRARY.makes_type
 LIBRARY.define(34)
 
 
-@fact
+@fact(r"one_one{ind,ind} num.suc_ind /\ (~ onto{ind,ind} num.suc_ind)", "The successor on ind is injective and not onto.")
 def ind_infinite(s):
     chosen = s.norm(s.by("SomeHolds", r"\f:ind -> ind. one_one f /\ ~ onto f"))
     return s.rewrite(s.mp(chosen, s.axiom(3)), s.sym(s.definition("num.suc_ind")))
@@ -20,7 +20,7 @@ def ind_infinite(s):
 LIBRARY.define(35)
 
 
-@fact
+@fact("!x0:ind. ~ (num.suc_ind x0 = num.zero_ind)", "What stands for zero in ind is no successor.")
 def zero_ind_not_suc(s):
     """What the successor misses is no successor."""
     s.fix("x y:ind")
@@ -36,14 +36,14 @@ def zero_ind_not_suc(s):
 LIBRARY.define(36)
 
 
-@fact
+@fact("num.is num.zero_ind", "It represents a number.")
 def zero_ind_is_num(s):
     s.fix("P:ind -> bool")
     closed = s.assume(r"P num.zero_ind /\ (!i. P i ==> P (num.suc_ind i))")
     return s.back(s.unfold("num.is num.zero_ind"), s.gen("P", s.disch(closed.concl, s.conj_l(closed))))
 
 
-@fact
+@fact("!x0:ind. num.is x0 ==> num.is (num.suc_ind x0)", "The successor of what represents a number represents one.")
 def suc_ind_is_num(s):
     s.fix("P:ind -> bool, i:ind")
     number = s.assume("num.is i")
@@ -60,19 +60,22 @@ def num_inhabited(s):
     return zero_ind_is_num(s)
 
 
-@fact
+@fact("!x0:num. num.abs (num.rep x0) = x0", "A number is the one that its representation stands for.")
 def num_abs_rep(s):
     s.fix("a:num")
     return s.gen("a", s.type_abs("num"))
 
 
-@fact
+@fact(
+    "!x0:ind. num.is x0 = (num.rep (num.abs x0) = x0)",
+    "An element of ind represents a number where it is reached from zero by successors.",
+)
 def num_rep_abs(s):
     s.fix("r:ind")
     return s.gen("r", s.type_rep("num"))
 
 
-@fact
+@fact("!x0:num. num.is (num.rep x0)", "The representation of a number represents one.")
 def rep_is_num(s):
     s.fix("n:num")
     same = s.of("num.rep", s.by("NumAbsRep", "n"))
@@ -82,7 +85,7 @@ def rep_is_num(s):
 LIBRARY.define(38)
 
 
-@fact
+@fact("num.rep 0 = num.zero_ind", "How zero is represented.")
 def rep_zero(s):
     represents = s.eq_mp(s.by("NumRepAbs", "num.zero_ind"), s.by("ZeroIndIsNum"))
     return s.trans(s.of("num.rep", s.definition("0")), represents)
@@ -91,7 +94,7 @@ def rep_zero(s):
 LIBRARY.define(39)
 
 
-@fact
+@fact("!x0:num. num.rep (suc x0) = num.suc_ind (num.rep x0)", "How a successor is represented.")
 def rep_suc(s):
     s.fix("n:num")
     number = s.mp(s.by("SucIndIsNum", "num.rep n"), s.by("RepIsNum", "n"))
@@ -99,7 +102,7 @@ def rep_suc(s):
     return s.gen("n", s.trans(s.of("num.rep", s.unfold("suc n")), represents))
 
 
-@fact
+@fact("!x0:num. ~ (suc x0 = 0)", "A successor is not zero.")
 def suc_not_zero(s):
     s.fix("n:num")
     equal = s.assume("suc n = 0")
@@ -107,7 +110,7 @@ def suc_not_zero(s):
     return s.gen("n", s.deny(equal.concl, s.absurd(s.by("ZeroIndNotSuc", "num.rep n"), rep)))
 
 
-@fact
+@fact("!x0:num. !x1:num. (suc x0 = suc x1) ==> (x0 = x1)", "Numbers with equal successors are equal.")
 def suc_injective(s):
     s.fix("m n:num")
     equal = s.assume("suc m = suc n")
@@ -118,7 +121,7 @@ def suc_injective(s):
     return s.gen("m n", s.disch(equal.concl, same))
 
 
-@fact
+@fact("!x0:num -> bool. x0 0 ==> ((!x1:num. x0 x1 ==> x0 (suc x1)) ==> (!x1:num. x0 x1))", "Induction over numbers.")
 def num_induction(s):
     """What represents n is in each set with zero and successors, so also in that of what represents a number with P."""
     s.fix("P:num -> bool, n:num, i:ind")
@@ -135,7 +138,7 @@ def num_induction(s):
     return s.gen("P", s.disch(zero.concl, s.disch(step.concl, holds)))
 
 
-@fact
+@fact(r"!x0:num. (x0 = 0) \/ (?x1:num. x0 = suc x1)", "A number is zero or a successor.")
 def num_cases(s):
     s.fix("n:num")
     induction = s.norm(s.by("NumInduction", r"\n. n = 0 \/ (?m. n = suc m)"))
@@ -144,7 +147,11 @@ def num_cases(s):
     return s.mp(induction, zero, s.gen("n", s.disch(r"n = 0 \/ (?m. n = suc m)", step)))
 
 
-@fact
+@fact(
+    "!x0:('a -> 'b -> bool) -> 'a -> 'b -> bool. (!x1:'a -> 'b -> bool. !x2:'a -> 'b -> bool. (!x3:'a. !x4:'b. x1 x3 x4 ==> x2 x3 "
+    "x4) ==> (!x3:'a. !x4:'b. x0 x1 x3 x4 ==> x0 x2 x3 x4)) ==> (?x1:'a -> 'b -> bool. !x2:'a. !x3:'b. x1 x2 x3 = x0 x1 x2 x3)",
+    "Knaster and Tarski: a monotone function of relations has a fixed relation.",
+)
 def fixed_relation(s):
     """G is the least relation that F makes no larger."""
     s.fix("F:('a -> 'b -> bool) -> 'a -> 'b -> bool, R:'a -> 'b -> bool, x:'a, y:'b")
@@ -169,7 +176,11 @@ LAST = r"n = c i p /\ (%s)" % VALUE
 GRAPH = r"%s \/ (?i p. %s)" % (START, LAST)
 
 
-@fact
+@fact(
+    r"!x0:'a. !x1:'b -> num -> 'a -> 'a. !x2:'b -> num -> num. ?x3:num -> 'a -> bool. !x4:num. !x5:'a. x3 x4 x5 = (((x4 = 0) /\ (x5 "
+    r"= x0)) \/ (?x6:'b. ?x7:num. (x4 = x2 x6 x7) /\ (?x8:'a. x3 x7 x8 /\ (x5 = x1 x6 x7 x8))))",
+    "There is a relation that satisfies the equation of a graph of recursion along a step function c.",
+)
 def recursion_graph(s):
     s.fix("z a b:'a, f:'b -> num -> 'a -> 'a, c:'b -> num -> num, n p:num, i:'b, R S:num -> 'a -> bool")
     fixed = s.norm(s.by("FixedRelation", r"\G n b. " + GRAPH % "G"))
@@ -195,7 +206,12 @@ AT_STEP = r"!i p b. G (c i p) b = (%s)" % VALUE % "G"
 INDUCTION = "!P. P 0 ==> ((!i p. P p ==> P (c i p)) ==> (!n. P n))"
 
 
-@fact
+@fact(
+    r"!x0:'a. !x1:'b -> num -> 'a -> 'a. !x2:'b -> num -> num. !x3:num -> 'a -> bool. (!x4:num. !x5:'a. x3 x4 x5 = (((x4 = 0) /\ "
+    r"(x5 = x0)) \/ (?x6:'b. ?x7:num. (x4 = x2 x6 x7) /\ (?x8:'a. x3 x7 x8 /\ (x5 = x1 x6 x7 x8))))) ==> ((!x4:'b. !x5:num. ~ (x2 "
+    "x4 x5 = 0)) ==> (!x4:'a. x3 0 x4 = (x4 = x0)))",
+    "Where no step gives zero, such a relation has the start alone at zero.",
+)
 def graph_at_zero(s):
     s.fix(VARIABLES)
     s.let("n", "0")
@@ -209,7 +225,11 @@ def graph_at_zero(s):
     return s.gen("z f c G", s.disch(equation.concl, s.disch(never_zero.concl, value)))
 
 
-@fact
+@fact(
+    r"!x0:'a -> 'b -> 'c. (!x1:'a. !x2:'b. !x3:'a. !x4:'b. (x0 x1 x2 = x0 x3 x4) ==> ((x1 = x3) /\ (x2 = x4))) ==> (!x1:'a -> 'b -> "
+    r"bool. !x2:'a. !x3:'b. (?x4:'a. ?x5:'b. (x0 x2 x3 = x0 x4 x5) /\ x1 x4 x5) = x1 x2 x3)",
+    "One-point rule: there are arguments of P at which an injective function has its value at i and p where P holds of i and p.",
+)
 def one_point_of_two(s):
     s.fix("c:'a -> 'b -> 'c, P:'a -> 'b -> bool, i j:'a, p q:'b")
     injective = s.assume(INJECTIVE)
@@ -222,7 +242,13 @@ def one_point_of_two(s):
     return s.gen("c", s.disch(injective.concl, s.gen("P i p", s.iff(there, back))))
 
 
-@fact
+@fact(
+    r"!x0:'a. !x1:'b -> num -> 'a -> 'a. !x2:'b -> num -> num. !x3:num -> 'a -> bool. (!x4:num. !x5:'a. x3 x4 x5 = (((x4 = 0) /\ "
+    r"(x5 = x0)) \/ (?x6:'b. ?x7:num. (x4 = x2 x6 x7) /\ (?x8:'a. x3 x7 x8 /\ (x5 = x1 x6 x7 x8))))) ==> ((!x4:'b. !x5:num. ~ (x2 "
+    r"x4 x5 = 0)) ==> ((!x4:'b. !x5:num. !x6:'b. !x7:num. (x2 x4 x5 = x2 x6 x7) ==> ((x4 = x6) /\ (x5 = x7))) ==> (!x4:'b. !x5:num. "
+    r"!x6:'a. x3 (x2 x4 x5) x6 = (?x7:'a. x3 x5 x7 /\ (x6 = x1 x4 x5 x7)))))",
+    "Where steps are also injective, it has at a step what the function makes of the values before it.",
+)
 def graph_at_step(s):
     s.fix(VARIABLES)
     s.let("n", "c i p")
@@ -237,7 +263,10 @@ def graph_at_step(s):
     return s.gen("z f c G", s.disch(equation.concl, value))
 
 
-@fact
+@fact(
+    r"!x0:'a -> bool. !x1:'a. (!x2:'a. x0 x2 = (x2 = x1)) ==> (!x2:'a -> bool. (?x3:'a. x0 x3 /\ x2 x3) = x2 x1)",
+    "One-point rule: where b alone satisfies P, there is one that satisfies P and Q where b satisfies Q.",
+)
 def only_one(s):
     s.fix("P Q:'a -> bool, a b:'a")
     only, both = s.assume("!a. P a = (a = b)"), s.assume(r"P a /\ Q a")
@@ -248,7 +277,12 @@ def only_one(s):
     return s.gen("P b", s.disch(only.concl, s.gen("Q", s.iff(there, back))))
 
 
-@fact
+@fact(
+    "!x0:'a. !x1:'b -> num -> 'a -> 'a. !x2:'b -> num -> num. !x3:num -> 'a -> bool. (!x4:'a. x3 0 x4 = (x4 = x0)) ==> ((!x4:'b. "
+    r"!x5:num. !x6:'a. x3 (x2 x4 x5) x6 = (?x7:'a. x3 x5 x7 /\ (x6 = x1 x4 x5 x7))) ==> ((!x4:num -> bool. x4 0 ==> ((!x5:'b. "
+    "!x6:num. x4 x6 ==> x4 (x2 x5 x6)) ==> (!x5:num. x4 x5))) ==> (!x4:num. ?x5:'a. !x6:'a. x3 x4 x6 = (x6 = x5))))",
+    "By induction along the steps, it has one value everywhere.",
+)
 def graph_values(s):
     """The one value at a step is what f makes of the one before it."""
     s.fix(VARIABLES)
@@ -264,7 +298,12 @@ def graph_values(s):
     return s.gen("z f c G", s.disch(at_zero.concl, values))
 
 
-@fact
+@fact(
+    "!x0:'a. !x1:'b -> num -> 'a -> 'a. !x2:'b -> num -> num. !x3:num -> 'a -> bool. (!x4:'a. x3 0 x4 = (x4 = x0)) ==> ((!x4:'b. "
+    r"!x5:num. !x6:'a. x3 (x2 x4 x5) x6 = (?x7:'a. x3 x5 x7 /\ (x6 = x1 x4 x5 x7))) ==> ((!x4:num. ?x5:'a. !x6:'a. x3 x4 x6 = (x6 = "
+    r"x5)) ==> (?x4:num -> 'a. (x4 0 = x0) /\ (!x5:'b. !x6:num. x4 (x2 x5 x6) = x1 x5 x6 (x4 x6)))))",
+    "The function of these values satisfies the equations of recursion.",
+)
 def graph_function(s):
     """Choice gives the function h of the values; the equations of the graph at `h n` are those of recursion."""
     s.fix(VARIABLES + ", h:num -> 'a")
@@ -281,7 +320,13 @@ def graph_function(s):
     return s.gen("z f c G", s.disch(at_zero.concl, s.disch(at_step.concl, recursion)))
 
 
-@fact
+@fact(
+    "!x0:'a. !x1:'b -> num -> 'a -> 'a. !x2:'b -> num -> num. !x3:num -> 'a -> bool. (!x4:'a. x3 0 x4 = (x4 = x0)) ==> ((!x4:'b. "
+    r"!x5:num. !x6:'a. x3 (x2 x4 x5) x6 = (?x7:'a. x3 x5 x7 /\ (x6 = x1 x4 x5 x7))) ==> ((!x4:num -> bool. x4 0 ==> ((!x5:'b. "
+    r"!x6:num. x4 x6 ==> x4 (x2 x5 x6)) ==> (!x5:num. x4 x5))) ==> (?x4:num -> 'a. (x4 0 = x0) /\ (!x5:'b. !x6:num. x4 (x2 x5 x6) = "
+    "x1 x5 x6 (x4 x6)))))",
+    "By induction along the steps, a relation with both equations of the graph gives a function of recursion.",
+)
 def recursion_from_graph(s):
     s.fix(VARIABLES)
     at_zero, at_step, induction = s.assume(AT_ZERO), s.assume(AT_STEP), s.assume(INDUCTION)
@@ -291,7 +336,12 @@ def recursion_from_graph(s):
     return s.gen("z f c G", s.disch(at_zero.concl, recursion))
 
 
-@fact
+@fact(
+    "!x0:'b -> num -> num. (!x1:'b. !x2:num. ~ (x0 x1 x2 = 0)) ==> ((!x1:'b. !x2:num. !x3:'b. !x4:num. (x0 x1 x2 = x0 x3 x4) ==> "
+    r"((x1 = x3) /\ (x2 = x4))) ==> ((!x1:num -> bool. x1 0 ==> ((!x2:'b. !x3:num. x1 x3 ==> x1 (x0 x2 x3)) ==> (!x2:num. x1 x2))) "
+    r"==> (!x1:'a. !x2:'b -> num -> 'a -> 'a. ?x3:num -> 'a. (x3 0 = x1) /\ (!x4:'b. !x5:num. x3 (x0 x4 x5) = x2 x4 x5 (x3 x5)))))",
+    "Recursion along steps that are injective, never zero, and reach each number.",
+)
 def recursion(s):
     s.fix(VARIABLES)
     never_zero, injective, induction = s.assume(NEVER_ZERO), s.assume(INJECTIVE), s.assume(INDUCTION)
@@ -304,7 +354,10 @@ def recursion(s):
     return s.gen("c", s.disch(never_zero.concl, function))
 
 
-@fact
+@fact(
+    r"!x0:'a. !x1:num -> 'a -> 'a. ?x2:num -> 'a. (x2 0 = x0) /\ (!x3:num. x2 (suc x3) = x1 x3 (x2 x3))",
+    "Recursion over numbers: there is a function with these two equations.",
+)
 def num_recursion(s):
     """Recursion along the successor, the step for the one element of unit."""
     s.fix("z:'a, f:num -> 'a -> 'a, h:num -> 'a, P:num -> bool, i j:unit, p q:num")
@@ -327,7 +380,11 @@ def num_recursion(s):
 LIBRARY.define(40)
 
 
-@fact
+@fact(
+    r"!x0:'a. !x1:num -> 'a -> 'a. (num.rec{'a} x0 x1 0 = x0) /\ (!x2:num. num.rec{'a} x0 x1 (suc x2) = x1 x2 (num.rec{'a} x0 x1 "
+    "x2))",
+    "The recursor satisfies both equations.",
+)
 def rec_equations(s):
     s.fix("z:'a, f:num -> 'a -> 'a")
     chosen = s.norm(s.by("SomeHolds", r"\h. h 0 = z /\ (!n. h (suc n) = f n (h n))"))
@@ -335,13 +392,13 @@ def rec_equations(s):
     return s.gen("z f", s.rewrite(both, s.sym(s.unfold("num.rec z f"))))
 
 
-@fact
+@fact("!x0:'a. !x1:num -> 'a -> 'a. num.rec{'a} x0 x1 0 = x0", "The recursor at zero.")
 def rec_zero(s):
     s.fix("z:'a, f:num -> 'a -> 'a")
     return s.gen("z f", s.conj_l(s.by("RecEquations", "z", "f")))
 
 
-@fact
+@fact("!x0:'a. !x1:num -> 'a -> 'a. !x2:num. num.rec{'a} x0 x1 (suc x2) = x1 x2 (num.rec{'a} x0 x1 x2)", "The recursor at a successor.")
 def rec_suc(s):
     s.fix("z:'a, f:num -> 'a -> 'a")
     return s.gen("z f", s.conj_r(s.by("RecEquations", "z", "f")))
@@ -350,14 +407,14 @@ def rec_suc(s):
 LIBRARY.define(41)
 
 
-@fact
+@fact("!x0:num. num.le x0 x0", "A number is at most itself.")
 def le_reflexive(s):
     s.fix("m:num, P:num -> bool")
     closed = s.assume(r"P m /\ (!k. P k ==> P (suc k))")
     return s.gen("m", s.back(s.unfold("num.le m m"), s.gen("P", s.disch(closed.concl, s.conj_l(closed)))))
 
 
-@fact
+@fact("!x0:num. !x1:num. num.le x0 x1 ==> num.le x0 (suc x1)", "What is at most a number is at most its successor.")
 def le_suc(s):
     s.fix("m n:num, P:num -> bool")
     below = s.assume("num.le m n")
@@ -368,7 +425,10 @@ def le_suc(s):
     return s.gen("m n", s.disch(below.concl, s.back(s.inst(means, n="suc n"), there)))
 
 
-@fact
+@fact(
+    "!x0:num -> bool. !x1:num. !x2:num. x0 x1 ==> ((!x3:num. x0 x3 ==> x0 (suc x3)) ==> (num.le x1 x2 ==> x0 x2))",
+    "Induction from a number upwards.",
+)
 def le_induction(s):
     s.fix("m n:num, P:num -> bool")
     start, step, below = s.assume("P m"), s.assume("!k. P k ==> P (suc k)"), s.assume("num.le m n")
@@ -377,7 +437,7 @@ def le_induction(s):
     return s.gen("P m n", s.disch(start.concl, s.disch(step.concl, there)))
 
 
-@fact
+@fact("!x0:num. !x1:num. !x2:num. num.le x0 x1 ==> (num.le x1 x2 ==> num.le x0 x2)", "The order is transitive.")
 def le_transitive(s):
     s.fix("k m n:num")
     start = s.assume("num.le k m")
@@ -385,7 +445,7 @@ def le_transitive(s):
     return s.gen("k m n", s.disch(start.concl, above))
 
 
-@fact
+@fact("!x0:num. !x1:num. num.le x0 x1 ==> num.le (suc x0) (suc x1)", "Successors keep the order.")
 def le_suc_suc(s):
     s.fix("k m n:num")
     induction = s.norm(s.by("LeInduction", r"\k. num.le (suc m) (suc k)", "m", "n"))
@@ -393,7 +453,7 @@ def le_suc_suc(s):
     return s.gen("m n", s.mp(induction, s.by("LeReflexive", "suc m"), step))
 
 
-@fact
+@fact(r"!x0:num. !x1:num. num.le x0 x1 ==> ((x0 = x1) \/ num.le (suc x0) x1)", "What is at most a number is that number or below it.")
 def le_cases(s):
     s.fix("k m n:num")
     induction = s.norm(s.by("LeInduction", r"\k. m = k \/ num.le (suc m) k", "m", "n"))
@@ -405,7 +465,7 @@ def le_cases(s):
     return s.gen("m n", s.mp(induction, start, s.gen("k", step)))
 
 
-@fact
+@fact("!x0:num. ~ num.le (suc x0) 0", "Nothing is below zero.")
 def none_below_zero(s):
     s.fix("k n:num")
     induction = s.norm(s.by("LeInduction", r"\k. ~ (k = 0)", "suc n", "0"))
@@ -415,7 +475,7 @@ def none_below_zero(s):
     return s.gen("n", s.deny(below.concl, s.absurd(never, s.refl("0"))))
 
 
-@fact
+@fact("!x0:num. !x1:num. num.le (suc x0) (suc x1) ==> num.le x0 x1", "The order of successors is that of the numbers.")
 def le_of_sucs(s):
     """By induction from suc m upwards: each number is the successor of one that m is at most."""
     s.fix("j k m n:num")
@@ -435,7 +495,10 @@ def le_of_sucs(s):
     return s.gen("m n", s.disch(below.concl, result))
 
 
-@fact
+@fact(
+    "!x0:num -> bool. (!x1:num. (!x2:num. num.le (suc x2) x1 ==> x0 x2) ==> x0 x1) ==> (!x1:num. x0 x1)",
+    "Induction over smaller numbers.",
+)
 def strong_induction(s):
     """By induction over n, P holds of all numbers below n."""
     s.fix("P:num -> bool, m n:num")

@@ -12,12 +12,12 @@ LIBRARY.define(42)
 TWO_MORE = r"\n:num r. suc (suc r)"
 
 
-@fact
+@fact("num.dbl 0 = 0", "Twice zero.")
 def double_zero(s):
     return s.rewrite(s.by("RecZero", "0", TWO_MORE), s.sym(s.definition("num.dbl")))
 
 
-@fact
+@fact("!x0:num. num.dbl (suc x0) = suc (suc (num.dbl x0))", "Twice a successor.")
 def double_suc(s):
     return s.rewrite(s.norm(s.by("RecSuc", "0", TWO_MORE)), s.sym(s.definition("num.dbl")))
 
@@ -25,7 +25,11 @@ def double_suc(s):
 VALUES = r"!n. r (num.dbl n) = (\f g. f n) /\ r (suc (num.dbl n)) = (\f g. g n)"
 
 
-@fact
+@fact(
+    r"?x0:num -> (num -> 'a) -> (num -> 'a) -> 'a. !x1:num. (x0 (num.dbl x1) = (\x2:num -> 'a. \x3:num -> 'a. x2 x1)) /\ (x0 (suc "
+    r"(num.dbl x1)) = (\x2:num -> 'a. \x3:num -> 'a. x3 x1))",
+    "A function that gives the first of two functions of n at twice n, and the second at the number after it.",
+)
 def even_odd_selector(s):
     """`r 0 f g` is f 0, and `r (suc n) f g` is `r n g f'`, where f' is f after the successor. So two steps go from f
     and g to f' and g', and twice n steps to the value of f at n."""
@@ -47,7 +51,7 @@ def even_odd_selector(s):
     return s.choose("r", recursion, selector)
 
 
-@fact
+@fact("!x0:num. !x1:num. ~ (num.dbl x0 = suc (num.dbl x1))", "An even number is not odd.")
 def double_not_odd(s):
     """A selector between constant functions to T and F tells even from odd."""
     s.fix("m n:num, r:num -> (num -> bool) -> (num -> bool) -> bool")
@@ -61,7 +65,7 @@ def double_not_odd(s):
     return s.gen("m n", s.deny(equal.concl, falsity))
 
 
-@fact
+@fact("!x0:num. !x1:num. (num.dbl x0 = num.dbl x1) ==> (x0 = x1)", "Numbers of which the doubles are equal are equal.")
 def double_injective(s):
     """A selector of the identity at even numbers halves them."""
     s.fix("m n:num, r:num -> (num -> num) -> (num -> num) -> num")
@@ -74,7 +78,7 @@ def double_injective(s):
     return s.gen("m n", s.disch(equal.concl, same))
 
 
-@fact
+@fact("!x0:num. (num.dbl x0 = 0) ==> (x0 = 0)", "Twice zero alone is zero.")
 def double_is_zero(s):
     s.fix("n:num")
     zero = s.assume("num.dbl n = 0")
@@ -82,7 +86,7 @@ def double_is_zero(s):
     return s.gen("n", s.disch(zero.concl, same))
 
 
-@fact
+@fact("!x0:num. num.le x0 (num.dbl x0)", "A number is at most its double.")
 def le_double(s):
     s.fix("n:num")
     zero = s.subst("n", "num.le n (num.dbl 0)", s.by("DoubleZero"), s.by("LeReflexive", "num.dbl 0"))
@@ -92,7 +96,7 @@ def le_double(s):
     return s.induction("n", "num.le n (num.dbl n)", zero, suc)
 
 
-@fact
+@fact(r"!x0:num. (x0 = 0) \/ num.le (suc x0) (num.dbl x0)", "A number is zero or below its double.")
 def below_double(s):
     s.fix("n:num")
     zero = s.disj_l(s.refl("0"), "num.le (suc 0) (num.dbl 0)")
@@ -102,7 +106,7 @@ def below_double(s):
     return s.induction("n", r"n = 0 \/ num.le (suc n) (num.dbl n)", zero, suc)
 
 
-@fact
+@fact(r"!x0:num. ?x1:num. (x0 = num.dbl x1) \/ (x0 = suc (num.dbl x1))", "A number is even or odd.")
 def even_or_odd(s):
     s.fix("m n:num")
     p = r"?m. n = num.dbl m \/ n = suc (num.dbl m)"
@@ -123,14 +127,14 @@ LIBRARY.define(43)
 DOUBLED = r"\n:num r. num.dbl r"
 
 
-@fact
+@fact("!x0:num. num.cons 0 x0 = suc (num.dbl x0)", "The path code of a step 0.")
 def cons_zero(s):
     s.fix("p:num")
     value = s.by("RecZero", "suc (num.dbl p)", DOUBLED)
     return s.gen("p", s.trans(s.unfold("num.cons 0 p"), value))
 
 
-@fact
+@fact("!x0:num. !x1:num. num.cons (suc x0) x1 = num.dbl (num.cons x0 x1)", "The path code of a step that is a successor.")
 def cons_suc(s):
     s.fix("i p:num")
     value = s.norm(s.by("RecSuc", "suc (num.dbl p)", DOUBLED, "i"))
@@ -138,7 +142,7 @@ def cons_suc(s):
     return s.gen("i p", s.back(s.norm(meaning), value))
 
 
-@fact
+@fact("!x0:num. !x1:num. num.le (suc x1) (num.cons x0 x1)", "The rest of a path has a smaller code than the path.")
 def below_cons(s):
     s.fix("i p:num")
     p = "!p. num.le (suc p) (num.cons i p)"
@@ -150,7 +154,7 @@ def below_cons(s):
     return s.induction("i", p, zero, suc)
 
 
-@fact
+@fact("!x0:num. !x1:num. ~ (num.cons x0 x1 = 0)", "The path code of a step is not zero, which is that of the empty path.")
 def cons_not_zero(s):
     s.fix("i p:num")
     zero = s.assume("num.cons i p = 0")
@@ -158,7 +162,10 @@ def cons_not_zero(s):
     return s.gen("i p", s.deny(zero.concl, s.absurd(s.by("NoneBelowZero", "p"), below)))
 
 
-@fact
+@fact(
+    r"!x0:num. !x1:num. !x2:num. (num.cons x0 x1 = num.cons 0 x2) ==> ((x0 = 0) /\ (x1 = x2))",
+    "A path code that is one of a step 0 has the step 0 and the same rest.",
+)
 def cons_step_zero(s):
     s.fix("i p q:num")
     equal = s.assume("num.cons 0 p = num.cons 0 q")
@@ -173,7 +180,10 @@ def cons_step_zero(s):
     return s.induction("i", r"!p q. num.cons i p = num.cons 0 q ==> i = 0 /\ p = q", zero, suc)
 
 
-@fact
+@fact(
+    r"!x0:num. !x1:num. !x2:num. (num.cons 0 x0 = num.cons x1 x2) ==> ((0 = x1) /\ (x0 = x2))",
+    "Where a path code of a step 0 is another code, the steps and the rests are equal.",
+)
 def cons_zero_injective(s):
     s.fix("p j q:num")
     equal = s.assume("num.cons 0 p = num.cons j q")
@@ -182,7 +192,10 @@ def cons_zero_injective(s):
     return s.gen("p j q", s.disch(equal.concl, parts))
 
 
-@fact
+@fact(
+    r"!x0:num. !x1:num. !x2:num. !x3:num. (num.cons x0 x1 = num.cons x2 x3) ==> ((x0 = x2) /\ (x1 = x3))",
+    "Equal path codes have equal first steps and equal rests.",
+)
 def cons_injective(s):
     """By induction on i, and for its successor by cases on j."""
     s.fix("i p j q:num")
@@ -198,7 +211,10 @@ def cons_injective(s):
     return s.induction("i", injective, s.by("ConsZeroInjective"), s.gen("p", suc))
 
 
-@fact
+@fact(
+    "!x0:num. (?x1:num. ?x2:num. x0 = num.cons x1 x2) ==> (?x1:num. ?x2:num. num.dbl x0 = num.cons x1 x2)",
+    "Twice the path code of a step is the path code of one.",
+)
 def double_is_code(s):
     s.fix("n i p:num")
     code = s.of("num.dbl", s.assume("n = num.cons i p"))
@@ -209,7 +225,7 @@ def double_is_code(s):
     return s.gen("n", s.disch("?i p. n = num.cons i p", code))
 
 
-@fact
+@fact(r"!x0:num. (x0 = 0) \/ (?x1:num. ?x2:num. x0 = num.cons x1 x2)", "Each number is a path code.")
 def path_cases(s):
     s.fix("n m:num")
     rule = s.norm(s.by("StrongInduction", r"\n. n = 0 \/ (?i p. n = num.cons i p)"))
@@ -228,7 +244,10 @@ def path_cases(s):
     return s.mp(rule, s.gen("n", s.disch(smaller.concl, either)))
 
 
-@fact
+@fact(
+    "!x0:num -> bool. x0 0 ==> ((!x1:num. !x2:num. x0 x2 ==> x0 (num.cons x1 x2)) ==> (!x1:num. x0 x1))",
+    "Induction along path codes.",
+)
 def path_induction(s):
     s.fix("P:num -> bool, n i p:num")
     start, step = s.assume("P 0"), s.assume("!i p. P p ==> P (num.cons i p)")
@@ -243,7 +262,10 @@ def path_induction(s):
     return s.gen("P", s.disch("P 0", s.disch(step.concl, holds)))
 
 
-@fact
+@fact(
+    r"!x0:'a. !x1:num -> num -> 'a -> 'a. ?x2:num -> 'a. (x2 0 = x0) /\ (!x3:num. !x4:num. x2 (num.cons x3 x4) = x1 x3 x4 (x2 x4))",
+    "Recursion along path codes.",
+)
 def path_recursion(s):
     rule = s.by("Recursion", "num.cons")
     return s.mp(rule, s.by("ConsNotZero"), s.by("ConsInjective"), s.by("PathInduction"))

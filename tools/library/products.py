@@ -14,19 +14,19 @@ def unit_inhabited(s):
     return s.eqt_e(s.beta_norm(r"(\b. b) T"))
 
 
-@fact
+@fact("!x0:unit. unit.abs (unit.rep x0) = x0", "An element of unit is the one that its representation stands for.")
 def unit_abs_rep(s):
     s.fix("a:unit")
     return s.gen("a", s.type_abs("unit"))
 
 
-@fact
+@fact("!x0:bool. x0 = (unit.rep (unit.abs x0) = x0)", "A truth value represents an element of unit where it holds.")
 def unit_rep_abs(s):
     s.fix("r:bool")
     return s.norm(s.gen("r", s.type_rep("unit")))
 
 
-@fact
+@fact("!x0:unit. !x1:unit. x0 = x1", "Unit has one element.")
 def unit_equal(s):
     s.fix("u v:unit")
     same = s.by("UnitAbsRep", "u")
@@ -47,13 +47,19 @@ def prod_inhabited(s):
     return s.back(s.beta_norm(r"(\r:'a -> 'b -> bool. ?z w. r = prod.graph z w) (prod.graph x y)"), graph)
 
 
-@fact
+@fact(
+    "!x0:('a,'b) prod. prod.abs{'a,'b} (prod.rep{'a,'b} x0) = x0",
+    "An element of a product is the one that its representation stands for.",
+)
 def prod_abs_rep(s):
     s.fix("a:('a,'b) prod")
     return s.gen("a", s.type_abs("prod"))
 
 
-@fact
+@fact(
+    "!x0:'a -> 'b -> bool. (?x1:'a. ?x2:'b. x0 = prod.graph{'a,'b} x1 x2) = (prod.rep{'a,'b} (prod.abs{'a,'b} x0) = x0)",
+    "A relation represents an element of a product where it is the graph of a pair.",
+)
 def prod_rep_abs(s):
     s.fix("r:'a -> 'b -> bool")
     return s.norm(s.gen("r", s.type_rep("prod")))
@@ -62,7 +68,7 @@ def prod_rep_abs(s):
 LIBRARY.define(17, 18, 19)
 
 
-@fact
+@fact("!x0:'a. !x1:'b. prod.rep{'a,'b} (pair{'a,'b} x0 x1) = prod.graph{'a,'b} x0 x1", "A pair is represented by its graph.")
 def pair_rep(s):
     s.fix("x:'a, y:'b")
     graph = s.ex_i("?w. prod.graph x y = prod.graph x w", "y", s.refl("prod.graph x y"))
@@ -71,7 +77,10 @@ def pair_rep(s):
     return s.gen("x y", s.trans(s.of("prod.rep", s.unfold("pair x y")), represents))
 
 
-@fact
+@fact(
+    r"!x0:'a. !x1:'b. !x2:'a. !x3:'b. (pair{'a,'b} x0 x1 = pair{'a,'b} x2 x3) ==> ((x0 = x2) /\ (x1 = x3))",
+    "Equal pairs have equal components.",
+)
 def pair_injective(s):
     s.fix("x z:'a, y w:'b")
     equal = s.assume("pair x y = pair z w")
@@ -82,7 +91,7 @@ def pair_injective(s):
     return s.gen("x y z w", s.disch(equal.concl, components))
 
 
-@fact
+@fact("!x0:('a,'b) prod. ?x1:'a. ?x2:'b. x0 = pair{'a,'b} x1 x2", "Each element of a product is a pair.")
 def pair_exhausts(s):
     s.fix("p:('a,'b) prod, x:'a, y:'b")
     same = s.by("ProdAbsRep", "p")
@@ -93,7 +102,7 @@ def pair_exhausts(s):
     return s.gen("p", s.choose("x", graph, s.open("y", "?y. prod.rep p = prod.graph x y", pair)))
 
 
-@fact
+@fact("!x0:'a. !x1:'b. fst{'a,'b} (pair{'a,'b} x0 x1) = x0", "The first component of a pair.")
 def fst_pair(s):
     s.fix("x a:'a, y b:'b")
     first = s.unfold("fst (pair x y)")
@@ -105,7 +114,7 @@ def fst_pair(s):
     return s.gen("x y", s.trans(first, s.mp(s.mp(choice, there), only)))
 
 
-@fact
+@fact("!x0:'a. !x1:'b. snd{'a,'b} (pair{'a,'b} x0 x1) = x1", "The second component of a pair.")
 def snd_pair(s):
     s.fix("x a:'a, y b:'b")
     second = s.unfold("snd (pair x y)")
@@ -117,7 +126,7 @@ def snd_pair(s):
     return s.gen("x y", s.trans(second, s.mp(s.mp(choice, there), only)))
 
 
-@fact
+@fact("!x0:('a,'b) prod. pair{'a,'b} (fst{'a,'b} x0) (snd{'a,'b} x0) = x0", "An element of a product is the pair of its components.")
 def pair_of_components(s):
     s.fix("p:('a,'b) prod, x:'a, y:'b")
     same = s.comb(s.of("pair{'a,'b}", s.by("FstPair", "x", "y")), s.by("SndPair", "x", "y"))

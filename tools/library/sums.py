@@ -20,13 +20,17 @@ def sum_inhabited(s):
     return s.back(s.beta_norm("(%s) (sum.left x)" % predicate), either)
 
 
-@fact
+@fact("!x0:('a,'b) sum. sum.abs{'a,'b} (sum.rep{'a,'b} x0) = x0", "An element of a sum is the one that its representation stands for.")
 def sum_abs_rep(s):
     s.fix("a:('a,'b) sum")
     return s.gen("a", s.type_abs("sum"))
 
 
-@fact
+@fact(
+    r"!x0:bool -> 'a -> 'b -> bool. ((?x1:'a. x0 = sum.left{'a,'b} x1) \/ (?x1:'b. x0 = sum.right{'b,'a} x1)) = (sum.rep{'a,'b} "
+    "(sum.abs{'a,'b} x0) = x0)",
+    "A relation represents an element of a sum where it is that of a left or a right value.",
+)
 def sum_rep_abs(s):
     s.fix("r:bool -> 'a -> 'b -> bool")
     return s.norm(s.gen("r", s.type_rep("sum")))
@@ -35,7 +39,7 @@ def sum_rep_abs(s):
 LIBRARY.define(27, 28)
 
 
-@fact
+@fact("!x0:'a. sum.rep{'a,'b} (inl{'a,'b} x0) = sum.left{'a,'b} x0", "How a left value is represented.")
 def inl_rep(s):
     s.fix("x:'a")
     is_left = s.ex_i("?w. sum.left{'a,'b} x = sum.left w", "x", s.refl("sum.left{'a,'b} x"))
@@ -44,7 +48,7 @@ def inl_rep(s):
     return s.gen("x", s.trans(s.of("sum.rep", s.unfold("inl{'a,'b} x")), represents))
 
 
-@fact
+@fact("!x0:'b. sum.rep{'a,'b} (inr{'b,'a} x0) = sum.right{'b,'a} x0", "How a right value is represented.")
 def inr_rep(s):
     s.fix("x:'b")
     is_right = s.ex_i("?w. sum.right{'b,'a} x = sum.right w", "x", s.refl("sum.right{'b,'a} x"))
@@ -53,7 +57,7 @@ def inr_rep(s):
     return s.gen("x", s.trans(s.of("sum.rep", s.unfold("inr{'b,'a} x")), represents))
 
 
-@fact
+@fact("!x0:'a. !x1:'a. (inl{'a,'b} x0 = inl{'a,'b} x1) ==> (x0 = x1)", "Equal left values have equal contents.")
 def inl_injective(s):
     s.fix("x y:'a, b:'b")
     equal = s.assume("inl{'a,'b} x = inl y")
@@ -64,7 +68,7 @@ def inl_injective(s):
     return s.gen("x y", s.disch(equal.concl, s.conj_r(same)))
 
 
-@fact
+@fact("!x0:'b. !x1:'b. (inr{'b,'a} x0 = inr{'b,'a} x1) ==> (x0 = x1)", "Equal right values have equal contents.")
 def inr_injective(s):
     s.fix("x y:'b, a:'a")
     equal = s.assume("inr{'b,'a} x = inr y")
@@ -75,7 +79,7 @@ def inr_injective(s):
     return s.gen("x y", s.disch(equal.concl, s.conj_r(same)))
 
 
-@fact
+@fact("!x0:'a. !x1:'b. ~ (inl{'a,'b} x0 = inr{'b,'a} x1)", "A left value is no right value.")
 def inl_not_inr(s):
     s.fix("x:'a, y:'b")
     equal = s.assume("inl{'a,'b} x = inr y")
@@ -86,14 +90,17 @@ def inl_not_inr(s):
     return s.gen("x y", s.deny(equal.concl, s.absurd(s.conj_l(same), s.by("Truth"))))
 
 
-@fact
+@fact("!x0:'a. !x1:'b. ~ (inr{'b,'a} x1 = inl{'a,'b} x0)", "A right value is no left value.")
 def inr_not_inl(s):
     s.fix("x:'a, y:'b")
     equal = s.assume("inr{'b,'a} y = inl x")
     return s.gen("x y", s.deny(equal.concl, s.absurd(s.by("InlNotInr", "x", "y"), s.sym(equal))))
 
 
-@fact
+@fact(
+    r"!x0:('a,'b) sum. (?x1:'a. x0 = inl{'a,'b} x1) \/ (?x1:'b. x0 = inr{'b,'a} x1)",
+    "Each element of a sum is a left or a right value.",
+)
 def inl_or_inr(s):
     s.fix("s:('a,'b) sum, x:'a, y:'b")
     same = s.by("SumAbsRep", "s")
@@ -117,7 +124,7 @@ LIBRARY.define(29)
 VALUE = r"(?a. s = inl a /\ %s = f a) \/ (?b. s = inr b /\ %s = g b)"
 
 
-@fact
+@fact("!x0:'a -> 'b. !x1:'c -> 'b. !x2:'a. sum.case{'a,'b,'c} x0 x1 (inl{'a,'c} x2) = x0 x2", "Case analysis of a left value.")
 def case_inl(s):
     s.fix("f:'a -> 'c, g:'b -> 'c, x a:'a, b:'b")
     s.let("s", "inl{'a,'b} x")
@@ -136,7 +143,7 @@ def case_inl(s):
     return s.gen("f g x", s.trans(s.unfold("sum.case f g (inl x)"), value))
 
 
-@fact
+@fact("!x0:'a -> 'b. !x1:'c -> 'b. !x2:'c. sum.case{'a,'b,'c} x0 x1 (inr{'c,'a} x2) = x1 x2", "Case analysis of a right value.")
 def case_inr(s):
     s.fix("f:'a -> 'c, g:'b -> 'c, x b:'b, a:'a")
     s.let("s", "inr{'b,'a} x")

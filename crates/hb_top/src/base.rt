@@ -6,6 +6,7 @@ ghost use Rattle.theory_answers.specs.Answer.{in_force};
 
 use hol_kernel::Kernel;
 use kernel_lines::start;
+use nd_rules::Rules;
 use script_core::Shelf;
 use std::alloc::{AllocError, Global};
 use th_base::build;
@@ -16,7 +17,8 @@ pub(crate) fn base_kernel(alloc: Global) -> Result<Kernel, AllocError>
     ensures { IfOk result (λ k. k.defs ≡ base in_force) }
 {
     let mut kernel = start(alloc)?;
+    let rules = Rules::new(alloc, &mut kernel)?;
     let mut shelf = Shelf::new(alloc)?;
-    build(alloc, &mut kernel, &mut shelf)?;
+    build(alloc, &mut kernel, &rules, &mut shelf)?;
     Ok(kernel)
 }

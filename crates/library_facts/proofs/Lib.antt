@@ -1,3 +1,1 @@
 pub mod BaseSignature
-pub mod FactsRead
-pub mod Unrefused

@@ -1,9 +1,6 @@
-//! The facts of the library, each stated by a text over the base definitions.
+//! Facts, each stated by a text over the base definitions.
 #![tactic(auto)]
 
-mod facts;
+mod fact;
 
-pub use facts::{
-    CountableFact, CsetFact, Fact, LogicFact, NumberFact, OrderFact, PathFact, ProductFact,
-    SumFact, fact_stmt,
-};
+pub use fact::{Fact, fact_stmt};

@@ -25,7 +25,6 @@ use Rattle.hol_terms.proofs.Same.{same-is}
 use Rattle.hol_kernel.specs.Fault.{type_fault, predicate_of, shows_inhabited}
 use Rattle.hol_kernel.specs.declared.kernel.Unfit.TheVariants as unfit
 use Rattle.hol_kernel.specs.Said.{is_const_def}
-use Rattle.library_facts.specs.declared.facts.Fact.{Fact}
 use Rattle.script_core.specs.Words.{first_word, after_word, words, number, kind_named}
 use Rattle.script_core.specs.Conversions.{most_steps}
 use Rattle.script_core.specs.Tables.{fact_sequent, table_sequent}
@@ -69,16 +68,16 @@ agree_is None r h = cc
 agree_is (Some a) None h = cc
 agree_is (Some a) (Some b) h = (refl, ap Some (same_sequents a b h))
 
-pub proves : {ds : List Definition} {from : List Fact} {table : Text} {fact : Fact} → agree (table_sequent ds from nothing table) (fact_sequent fact) ≡ true → Proves ds from table fact
+pub proves : {ds : List Definition} {from : List Text} {table : Text} {fact : Text} → agree (table_sequent ds from nothing table) (fact_sequent fact) ≡ true → Proves ds from table fact
 proves {ds} {from} {table} {fact} h =
     let p = agree_is (table_sequent ds from nothing table) (fact_sequent fact) h in
     record { stated = p.0; is = p.1 }
 
 -- the facts of a table, by their places among those proved
-pub from_none : {facts : List Fact} → AreAmong facts []
+pub from_none : {facts : List Text} → AreAmong facts []
 from_none {facts} = record { all = All-nil (Contains facts) }
 
-pub from_more : {facts from : List Fact} {fact : Fact} (i : ℕ) → slice_get facts i ≡ Some fact → AreAmong facts from → AreAmong facts (fact ∷ from)
+pub from_more : {facts from : List Text} {fact : Text} (i : ℕ) → slice_get facts i ≡ Some fact → AreAmong facts from → AreAmong facts (fact ∷ from)
 from_more {facts} {from} {fact} i e h =
     record { all = All-cons (Contains facts) fact from (i, slice_get_within facts i fact e, get_or_from_slice_get facts i fact fact e) h.all }
 

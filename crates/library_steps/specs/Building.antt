@@ -7,7 +7,7 @@ use Rattle.hol_terms.specs.Sequent.{Sequent}
 use Rattle.hol_terms.specs.Text.{Text}
 use Rattle.hol_kernel.specs.Said.{is_const_def}
 use Rattle.hol_kernel.specs.State.{State, Theorem, Has}
-use Rattle.library_facts.specs.declared.facts.Fact.{Fact}
+use Rattle.library_facts.specs.Facts.{statement_of, statements_of}
 use Rattle.script_core.specs.Shelves.{Shelved}
 use Rattle.library_steps.specs.Closed.{Proves, ShowsElement}
 use Rattle.library_steps.specs.declared.step.Step.{Step}
@@ -25,9 +25,9 @@ pub record Extends (s t : Shelved) : Type 0 where
   pub more : Shelved
   pub is : t ≡ s ++ more
 
--- the facts on a shelf, in the order of putting
-abbrev pub facts_on : Shelved → List Fact
-facts_on s = map (λ (e : Fact × Theorem). e.0) s
+-- the facts on a shelf, each by its text, in the order of putting
+abbrev pub facts_on : Shelved → List Text
+facts_on s = map (λ (e : Text × Theorem). e.0) s
 
 -- the definitions, and the facts that are proved, after a step and after steps
 abbrev pub defs_after : List Definition → Step → List Definition
@@ -35,16 +35,16 @@ defs_after ds (Constant place) = base (place + 1)
 defs_after ds (NewType place table) = base (place + 1)
 defs_after ds (Prove fact from table) = ds
 
-abbrev pub facts_after : List Fact → Step → List Fact
+abbrev pub facts_after : List Text → Step → List Text
 facts_after facts (Constant place) = facts
 facts_after facts (NewType place table) = facts
-facts_after facts (Prove fact from table) = facts ++ fact ∷ []
+facts_after facts (Prove fact from table) = facts ++ statement_of fact ∷ []
 
 abbrev pub made : List Definition → List Step → List Definition
 made ds [] = ds
 made ds (step ∷ steps) = made (defs_after ds step) steps
 
-abbrev pub proved : List Fact → List Step → List Fact
+abbrev pub proved : List Text → List Step → List Text
 proved facts [] = facts
 proved facts (step ∷ steps) = proved (facts_after facts step) steps
 
@@ -62,21 +62,21 @@ pub record IsTypeAt (place : ℕ) (table : Text) : Type 0 where
   pub shows : ShowsElement place table name
 
 -- each of the facts is one of these
-pub record AreAmong (facts from : List Fact) : Type 0 where
+pub record AreAmong (facts from : List Text) : Type 0 where
   pub all : All (Contains facts) from
 
 -- the step can be taken over these definitions, once these facts are proved
-abbrev pub FitsAt : List Definition → List Fact → Step → Type 0
+abbrev pub FitsAt : List Definition → List Text → Step → Type 0
 FitsAt ds facts (Constant place) = (ds ≡ base place) × IsConstantAt place
 FitsAt ds facts (NewType place table) = (ds ≡ base place) × IsTypeAt place table.now
-FitsAt ds facts (Prove fact from table) = AreAmong facts from.now × Proves ds from.now table.now fact
+FitsAt ds facts (Prove fact from table) = AreAmong facts (statements_of from.now) × Proves ds (statements_of from.now) table.now (statement_of fact)
 
 -- each step can be taken after those before it
-abbrev pub AllFit : List Definition → List Fact → List Step → Type 0
+abbrev pub AllFit : List Definition → List Text → List Step → Type 0
 AllFit ds facts [] = Unit {0}
 AllFit ds facts (step ∷ steps) = FitsAt ds facts step × AllFit (defs_after ds step) (facts_after facts step) steps
 
-pub record CanTake (ds : List Definition) (facts : List Fact) (steps : List Step) : Type 0 where
+pub record CanTake (ds : List Definition) (facts : List Text) (steps : List Step) : Type 0 where
   pub all : AllFit ds facts steps
 
 -- the steps make these definitions from those

@@ -6,7 +6,6 @@ use Rattle.hol_terms.specs.Base.{base, base_definitions}
 use Rattle.hol_terms.specs.Sequent.{Sequent}
 use Rattle.hol_terms.specs.Text.{Text}
 use Rattle.hol_kernel.specs.Fault.{type_fault, predicate_of}
-use Rattle.library_facts.specs.declared.facts.Fact.{Fact}
 use Rattle.script_core.specs.Steps.{Registers}
 use Rattle.script_core.specs.Tables.{fact_sequent, table_sequent}
 
@@ -15,7 +14,7 @@ abbrev pub nothing : Registers
 nothing = record { types = []; terms = []; thms = [] }
 
 -- over the definitions and from the facts, the table gives what the fact states
-pub record Proves (ds : List Definition) (from : List Fact) (table : Text) (fact : Fact) : Type 0 where
+pub record Proves (ds : List Definition) (from : List Text) (table : Text) (fact : Text) : Type 0 where
   pub stated : IsSome (fact_sequent fact)
   pub is : table_sequent ds from nothing table ≡ fact_sequent fact
 

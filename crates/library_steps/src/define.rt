@@ -4,7 +4,7 @@ ghost use Rattle.std.specs.Prelude.{◌≡◌, ◌+◌, ◌<◌, [], Some, None,
 ghost use Rattle.hol_terms.specs.Definition.{const_def, type_def};
 ghost use Rattle.hol_terms.specs.Base.{base, base_definitions};
 ghost use Rattle.hol_kernel.specs.State.{Has};
-ghost use Rattle.kernel_lines.specs.Bases.{HasBase};
+ghost use Rattle.nd_rules.specs.Kept.{HasRules};
 ghost use Rattle.script_core.specs.Shelves.{ShelfHad};
 ghost use Rattle.library_steps.specs.Closed.{ShowsElement};
 ghost use Rattle.library_steps.specs.Building.{IsConstantAt, IsTypeAt, Keeps};
@@ -13,6 +13,7 @@ use crate::closed::run_closed;
 use hol_kernel::Kernel;
 use hol_terms::defs::Def;
 use hol_terms::terms::Term;
+use nd_rules::Rules;
 use script_core::Shelf;
 use std::alloc::{AllocError, Global};
 use stmt_core::base_def;
@@ -52,11 +53,12 @@ fn make_constant(
 pub(crate) fn define_type(
     alloc: Global,
     k: &mut Kernel,
+    rules: &Rules,
     s: &Shelf,
     place: u32,
     table: &str,
 ) -> Result<(), AllocError>
-    requires base { HasBase k.old.defs }
+    requires rules { HasRules k.old rules.now }
     requires shelf { ShelfHad k.old s.now }
     requires so_far { k.old.defs ≡ base place }
     requires new_type { IsTypeAt place table.now }
@@ -64,7 +66,7 @@ pub(crate) fn define_type(
     ensures keeps { Keeps k.old k.new }
 {
     match base_def(alloc, place + 1)? {
-        Def::NewType { name, .. } => make_type(alloc, k, s, place, table, &name),
+        Def::NewType { name, .. } => make_type(alloc, k, rules, s, place, table, &name),
         Def::Const { .. } => unreachable!(),
     }
 }
@@ -72,19 +74,20 @@ pub(crate) fn define_type(
 fn make_type(
     alloc: Global,
     k: &mut Kernel,
+    rules: &Rules,
     s: &Shelf,
     place: u32,
     table: &str,
     name: &str,
 ) -> Result<(), AllocError>
-    requires base { HasBase k.old.defs }
+    requires rules { HasRules k.old rules.now }
     requires shelf { ShelfHad k.old s.now }
     requires so_far { k.old.defs ≡ base place }
     requires shows { ShowsElement place table.now name.now }
     ensures made { OnOk result (k.new.defs ≡ base (place + 1)) }
     ensures keeps { Keeps k.old k.new }
 {
-    let th = run_closed(alloc, k, s, &[], table)?;
+    let th = run_closed(alloc, k, rules, s, &[], table)?;
     let _both = k.define_type(alloc, name, &th)?;
     Ok(())
 }

@@ -20,9 +20,7 @@ use Rattle.std.specs.Str.Lines.{lines}
 use Rattle.kernel_lines.specs.Lines.{on}
 use Rattle.kernel_lines.specs.Bases.{HasBase}
 use Rattle.script_core.specs.Shelves.{Shelved, IsOn, AreOn}
-use Rattle.library_facts.specs.Facts.{fact_text}
 use Rattle.library_facts.proofs.BaseSignature.{base_signature, same_signature}
-use Rattle.library_facts.specs.declared.facts.Fact.{Fact}
 use Rattle.script_core.specs.Steps.{Registers}
 use Rattle.script_core.specs.Tables.{read, fact_sequent, facts_put, run_whole, table_sequent}
 use Rattle.script_core.specs.Ready.{given_values, IsGiven, Fits, Gives}
@@ -53,32 +51,32 @@ some_same : (a b : Sequent) → Some a ≡ Some b → a ≡ b
 some_same a b e = cc
 
 -- a closed table fits where it computes to a sequent, and gives that one
-pub closed_fits : {ds es : List Definition} {facts : List Fact} (g : Given) {table : Text} {a : Sequent} → ds ≡ es → g.types.now ≡ [] → g.terms.now ≡ [] → g.thms.now ≡ [] → table_sequent es facts nothing table ≡ Some a
+pub closed_fits : {ds es : List Definition} {facts : List Text} (g : Given) {table : Text} {a : Sequent} → ds ≡ es → g.types.now ≡ [] → g.terms.now ≡ [] → g.thms.now ≡ [] → table_sequent es facts nothing table ≡ Some a
     → Fits ds facts (given_values g) table
 closed_fits {ds} {es} {facts} g {table} {a} d x y z e =
     let f : table_sequent ds facts (given_values g) table ≡ Some a = (λ i. table_sequent (d i) facts (none_values g x y z i) table) ∙ e in
     record { is = subst IsSome (sym f) refl }
 
-pub closed_gives : {ds es : List Definition} {facts : List Fact} (g : Given) {table : Text} {a b : Sequent} → ds ≡ es → g.types.now ≡ [] → g.terms.now ≡ [] → g.thms.now ≡ [] → table_sequent es facts nothing table ≡ Some a
+pub closed_gives : {ds es : List Definition} {facts : List Text} (g : Given) {table : Text} {a b : Sequent} → ds ≡ es → g.types.now ≡ [] → g.terms.now ≡ [] → g.thms.now ≡ [] → table_sequent es facts nothing table ≡ Some a
     → Gives ds facts (given_values g) table b → b ≡ a
 closed_gives {ds} {es} {facts} g {table} {a} {b} d x y z e h =
     let f : table_sequent ds facts (given_values g) table ≡ table_sequent es facts nothing table = λ i. table_sequent (d i) facts (none_values g x y z i) table in
     some_same b a (sym h.is ∙ f ∙ e)
 
 -- a table over facts whose sequents are known
-pub over_facts : (ds : List Definition) (facts : List Fact) (hs : List Sequent) (table : Text) (a : Sequent) → facts_put [] facts ≡ Some hs → run_whole ds (record { types = []; terms = []; thms = hs ++ [] }) (lines table) ≡ Some a
+pub over_facts : (ds : List Definition) (facts : List Text) (hs : List Sequent) (table : Text) (a : Sequent) → facts_put [] facts ≡ Some hs → run_whole ds (record { types = []; terms = []; thms = hs ++ [] }) (lines table) ≡ Some a
     → table_sequent ds facts nothing table ≡ Some a
 over_facts ds facts hs table a f e = ap (λ o. on o (λ ks. run_whole ds (record { types = []; terms = []; thms = ks ++ [] }) (lines table))) f ∙ e
 
 -- a fact's sequent, read over the signature that is written out
-pub fact_reads_as : (fact : Fact) (p : Tm) → reading_of_term base_signature (fact_text fact) ≡ reads p → fact_sequent fact ≡ Some (seq [] p)
+pub fact_reads_as : (fact : Text) (p : Tm) → reading_of_term base_signature fact ≡ reads p → fact_sequent fact ≡ Some (seq [] p)
 fact_reads_as fact p e =
-    ap (λ r. on (read r) (λ q. Some (seq [] q))) (ap (λ s. reading_of_term s (fact_text fact)) (sym same_signature) ∙ e)
+    ap (λ r. on (read r) (λ q. Some (seq [] q))) (ap (λ s. reading_of_term s fact) (sym same_signature) ∙ e)
 
 pub on_none : (s : Shelved) → AreOn s []
 on_none s = record { all = All-nil (IsOn s) }
 
-pub on_more : (s : Shelved) (fact : Fact) (facts : List Fact) → IsOn s fact → AreOn s facts → AreOn s (fact ∷ facts)
+pub on_more : (s : Shelved) (fact : Text) (facts : List Text) → IsOn s fact → AreOn s facts → AreOn s (fact ∷ facts)
 on_more s fact facts h g = record { all = All-cons (IsOn s) fact facts h g.all }
 
 pub base_is : (ds : List Definition) → ds ≡ base 10 → HasBase ds

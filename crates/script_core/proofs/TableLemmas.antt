@@ -14,14 +14,13 @@ use Rattle.hol_terms.specs.Sequent.{Sequent}
 use Rattle.hol_terms.specs.Text.{Text}
 use Rattle.std.specs.Str.Lines.{lines}
 use Rattle.hol_terms.specs.Reading.{reading_of_type, reading_of_term}
-use Rattle.library_facts.specs.declared.facts.Fact.{Fact}
 use Rattle.hol_text.specs.Over.{GivesTypes}
 use Rattle.text_laws.proofs.Given.{gives_types}
 use Rattle.hol_kernel.specs.State.{State, Theorem, Has, Grows}
-use Rattle.kernel_lines.specs.Bases.{HasBase}
 use Rattle.kernel_lines.specs.Lines.{on, last}
 use Rattle.kernel_lines.specs.Ready.{behind, sequents, AllOver, AllHad}
 use Rattle.kernel_lines.proofs.Had.{last_push, had_last}
+use Rattle.nd_rules.proofs.Keeping.{rules_grow}
 use Rattle.script_core.specs.Steps.{Registers, inferred}
 use Rattle.script_core.specs.Words.{first_word, after_word, words, kind_named}
 use Rattle.script_core.specs.Tables.{read, with_type, with_term, with_thm, stepped, line_step, run, run_whole, facts_put, table_sequent}
@@ -136,9 +135,6 @@ pub table_end : (ds : List Definition) (r : Registers) (hs us : List Theorem) (t
 table_end ds r hs us th ls i h e d =
     rw (drop_all i ls h, e, d, map_push (λ (t : Theorem). t.sequent) us th) (last_push (sequents us) th.sequent)
 
-pub base_on : (k l : State) → HasBase k.defs → Grows k l → HasBase l.defs
-base_on k l h g = subst HasBase (sym g.defs) h
-
 -- a turn of the loop over the lines
 pub turn_fits : (o : Option Sequent) {es : List Definition} {q : Registers} (xs : List (Bor Text)) (i : ℕ) (d : Bor Text) → i < length xs → IsSome o → o ≡ run es q (behind (drop i xs))
     → LineFits es q (get_or xs i d).now
@@ -153,7 +149,7 @@ turn_rest {k} {l} {r} {q} xs i d h g s =
     ∙ ap (λ ds. run ds q (behind (drop (suc i) xs))) (sym g.defs)
     ∙ ap (λ m. run l.defs q (behind (drop m xs))) (sym (add-one i))
 
-pub ruleset loop_lemmas = (ready_on, typed_on, base_on, table_end, had_last)
+pub ruleset loop_lemmas = (ready_on, typed_on, rules_grow, table_end, had_last)
 
 pub types_from : (k : State) (th : Theorem) → th.defs ≡ k.defs → IsDerivable th.defs th.sequent → GivesTypes (signature_of k.defs)
 types_from k th e d = subst (λ (ds : List Definition). GivesTypes (signature_of ds)) e (gives_types th.defs d.conservative)
@@ -169,7 +165,7 @@ start_ready k g r hs h f a b c = record {
   thms = record { all = subst (λ ths. All (Has k) ths) (sym c) (All-append (Has k) hs (behind g.thms.now) f.all h.thms.all) };
 }
 
-pub start_from : (facts : List Fact) (g : Given) (r : Entries) (hs : List Theorem) → facts_put [] facts ≡ Some (sequents hs) → r.types.items ≡ g.types.now → r.terms.items ≡ g.terms.now → r.thms.items ≡ hs ++ behind g.thms.now
+pub start_from : (facts : List Text) (g : Given) (r : Entries) (hs : List Theorem) → facts_put [] facts ≡ Some (sequents hs) → r.types.items ≡ g.types.now → r.terms.items ≡ g.terms.now → r.thms.items ≡ hs ++ behind g.thms.now
     → StartsFrom facts (given_values g) (values r)
 start_from facts g r hs f a b c =
     let e : sequents r.thms.items ≡ sequents hs ++ sequents (behind g.thms.now) = ap sequents c ∙ map-append (λ (t : Theorem). t.sequent) hs (behind g.thms.now) in
@@ -178,7 +174,7 @@ start_from facts g r hs f a b c =
 pub ruleset start_lemmas = (start_ready, start_from)
 
 -- the whole
-of_start : (ds : List Definition) (facts : List Fact) (g r : Registers) (table : Text) (ls : List Text) → StartsFrom facts g r → ls ≡ lines table → table_sequent ds facts g table ≡ run_whole ds r ls
+of_start : (ds : List Definition) (facts : List Text) (g r : Registers) (table : Text) (ls : List Text) → StartsFrom facts g r → ls ≡ lines table → table_sequent ds facts g table ≡ run_whole ds r ls
 of_start ds facts g r table ls s e =
     ap (λ o. on o (λ hs. run_whole ds (record { types = g.types; terms = g.terms; thms = hs ++ g.thms }) (lines table))) s.stated
     ∙ (λ i. run_whole ds (sym s.is i) (sym e i))
@@ -187,15 +183,15 @@ whole_is : (ds : List Definition) (r : Registers) (ls : List Text) → IsSome (r
 whole_is ds r [] h = cc
 whole_is ds r (l ∷ ls) h = refl
 
-runs : (ds : List Definition) (facts : List Fact) (g r : Registers) (table : Text) (ls : List Text) → Fits ds facts g table → StartsFrom facts g r → ls ≡ lines table → table_sequent ds facts g table ≡ run ds r ls
+runs : (ds : List Definition) (facts : List Text) (g r : Registers) (table : Text) (ls : List Text) → Fits ds facts g table → StartsFrom facts g r → ls ≡ lines table → table_sequent ds facts g table ≡ run ds r ls
 runs ds facts g r table ls h s e =
     let f = of_start ds facts g r table ls s e in
     f ∙ whole_is ds r ls (subst IsSome f h.is)
 
-pub table_fits : (ds : List Definition) (facts : List Fact) (g r : Registers) (table : Text) (ls : List Text) → Fits ds facts g table → StartsFrom facts g r → ls ≡ lines table → IsSome (run ds r ls)
+pub table_fits : (ds : List Definition) (facts : List Text) (g r : Registers) (table : Text) (ls : List Text) → Fits ds facts g table → StartsFrom facts g r → ls ≡ lines table → IsSome (run ds r ls)
 table_fits ds facts g r table ls h s e = subst IsSome (runs ds facts g r table ls h s e) h.is
 
-pub table_gives : (ds : List Definition) (facts : List Fact) (g r : Registers) (table : Text) (ls : List Text) (a : Sequent) → Fits ds facts g table → StartsFrom facts g r → ls ≡ lines table → run ds r ls ≡ Some a
+pub table_gives : (ds : List Definition) (facts : List Text) (g r : Registers) (table : Text) (ls : List Text) (a : Sequent) → Fits ds facts g table → StartsFrom facts g r → ls ≡ lines table → run ds r ls ≡ Some a
     → Gives ds facts g table a
 table_gives ds facts g r table ls a h s e f = record { is = runs ds facts g r table ls h s e ∙ f }
 

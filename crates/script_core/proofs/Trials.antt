@@ -8,8 +8,6 @@ use Rattle.script_core.specs.Steps.{Registers}
 use Rattle.script_core.specs.Tables.{run, table_sequent, fact_sequent}
 use Rattle.std.specs.Str.Lines.{lines}
 use Rattle.library_facts.proofs.BaseSignature.{base_signature}
-use Rattle.library_facts.specs.declared.facts.Fact.TheVariants.{Logic}
-use Rattle.library_facts.specs.declared.facts.LogicFact.TheVariants.{Truth}
 use Rattle.script_core.proofs.Closed.{closed_table, fact_reads_as}
 
 abbrev none : Registers
@@ -23,9 +21,9 @@ trial2 : table_sequent (base 10) [] none (codes "term \\x0:bool. x0\nrefl 0\ndef
 unfolding closed_table
 trial2 = refl
 
-truth_reads : fact_sequent (Logic Truth) ≡ Some (seq [] const_T)
+truth_reads : fact_sequent (codes "T") ≡ Some (seq [] const_T)
 unfolding closed_table base_signature
-truth_reads = fact_reads_as (Logic Truth) const_T refl
+truth_reads = fact_reads_as (codes "T") const_T refl
 
 trial3 : run (base 10) (record { types = []; terms = []; thms = seq [] const_T ∷ seq [] const_T ∷ [] }) (lines (codes "conj_i 0 1\nconj_l 2\nterm T /\\ T\ndisch 0 3\nmp 4 2\n")) ≡ Some (seq [] const_T)
 unfolding closed_table

@@ -11,7 +11,6 @@ use Rattle.hol_terms.specs.Sequent.{Sequent}
 use Rattle.hol_terms.specs.Text.{Text}
 use Rattle.hol_kernel.specs.State.{State}
 use Rattle.kernel_lines.specs.Ready.{behind, sequents, AllOver, AllHad}
-use Rattle.library_facts.specs.declared.facts.Fact.{Fact}
 use Rattle.script_core.specs.Steps.{Registers, types_put, terms_put}
 use Rattle.script_core.specs.Tables.{run, facts_put, table_sequent}
 use Rattle.script_core.specs.declared.entries.Entries.{Entries}
@@ -41,10 +40,10 @@ pub record IsGiven (k : State) (g : Given) : Type 0 where
   pub thms : AllHad k (behind g.thms.now)
 
 -- the table can be run, and what it gives
-pub record Fits (ds : List Definition) (facts : List Fact) (given : Registers) (table : Text) : Type 0 where
+pub record Fits (ds : List Definition) (facts : List Text) (given : Registers) (table : Text) : Type 0 where
   pub is : IsSome (table_sequent ds facts given table)
 
-pub record Gives (ds : List Definition) (facts : List Fact) (given : Registers) (table : Text) (a : Sequent) : Type 0 where
+pub record Gives (ds : List Definition) (facts : List Text) (given : Registers) (table : Text) (a : Sequent) : Type 0 where
   pub is : table_sequent ds facts given table ≡ Some a
 
 -- A line can be followed where some further lines give something after it, and what it makes is then what further lines start
@@ -72,7 +71,7 @@ pub record TermSteps (ts : List Tm) (found : VarSubst) (variable word : Text) (n
   pub is : (more : List Text) → terms_put ts found (variable ∷ word ∷ more) ≡ terms_put ts new more
 
 -- the registers before the first line: what is given, its theorems behind those of the facts
-pub record StartsFrom (facts : List Fact) (given r : Registers) : Type 0 where
+pub record StartsFrom (facts : List Text) (given r : Registers) : Type 0 where
   pub known : List Sequent
   pub stated : facts_put [] facts ≡ Some known
   pub is : r ≡ record { types = given.types; terms = given.terms; thms = known ++ given.thms }

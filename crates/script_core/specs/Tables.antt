@@ -9,8 +9,6 @@ use Rattle.hol_terms.specs.Sequent.{Sequent, seq}
 use Rattle.hol_terms.specs.Reading.{Reading, reads, no_syntax, unknown, ill_typed, reading_of_type, reading_of_term}
 use Rattle.hol_terms.specs.Text.{Text}
 use Rattle.kernel_lines.specs.Lines.{on, last}
-use Rattle.library_facts.specs.Facts.{fact_text}
-use Rattle.library_facts.specs.declared.facts.Fact.{Fact}
 use Rattle.script_core.specs.Words.{kind_named, first_word, after_word, words}
 use Rattle.script_core.specs.Steps.{Registers, inferred}
 use Rattle.script_core.specs.declared.rule.LineKind.{LineKind}
@@ -47,12 +45,12 @@ abbrev pub run : List Definition → Registers → List Text → Option Sequent
 run ds r [] = last r.thms
 run ds r (line ∷ more) = on (line_step ds r line) (λ q. run ds q more)
 
--- `|- p`, where p is the statement of the fact
-abbrev pub fact_sequent : Fact → Option Sequent
-fact_sequent fact = on (read (reading_of_term (signature_of base_definitions) (fact_text fact))) (λ p. Some (seq [] p))
+-- `|- p`, where p is what the text of a fact reads as over the base definitions
+abbrev pub fact_sequent : Text → Option Sequent
+fact_sequent fact = on (read (reading_of_term (signature_of base_definitions) fact)) (λ p. Some (seq [] p))
 
--- the sequents of the facts, after those found
-abbrev pub facts_put : List Sequent → List Fact → Option (List Sequent)
+-- the sequents of the facts, each given by its text, after those found
+abbrev pub facts_put : List Sequent → List Text → Option (List Sequent)
 facts_put found [] = Some found
 facts_put found (fact ∷ facts) = on (fact_sequent fact) (λ a. facts_put (found ++ a ∷ []) facts)
 
@@ -62,6 +60,6 @@ run_whole ds r [] = None
 run_whole ds r (line ∷ more) = run ds r (line ∷ more)
 
 -- the last sequent of a table over these definitions, facts, and given types, terms and sequents
-abbrev pub table_sequent : List Definition → List Fact → Registers → Text → Option Sequent
+abbrev pub table_sequent : List Definition → List Text → Registers → Text → Option Sequent
 table_sequent ds facts given table =
     on (facts_put [] facts) (λ hs. run_whole ds (record { types = given.types; terms = given.terms; thms = hs ++ given.thms }) (lines table))

@@ -4,7 +4,7 @@ ghost use Rattle.std.specs.Prelude.{◌≡◌, [], IfOk, IsSome, Some};
 ghost use Rattle.hol_terms.specs.Signature.{IsOver};
 ghost use Rattle.hol_terms.specs.Definition.{signature_of};
 ghost use Rattle.hol_kernel.specs.State.{Has, Grows};
-ghost use Rattle.kernel_lines.specs.Bases.{HasBase};
+ghost use Rattle.nd_rules.specs.Kept.{HasRules};
 ghost use Rattle.script_core.specs.Steps.{term_rule, term_thm_rule};
 
 use crate::conversions::{beta_converted, beta_normed, eta_converted, rewritten};
@@ -12,17 +12,17 @@ use crate::entries::variable_of;
 use crate::rule::{TermRule, TermThmRule};
 use hol_kernel::{Kernel, Thm};
 use hol_terms::terms::Term;
-use nd_rules::binders::{gen_, spec};
-use nd_rules::connectives::{disch, disj_r};
+use nd_rules::Rules;
 use std::alloc::{AllocError, Global};
 
 pub(crate) fn by_term(
     alloc: Global,
     k: &mut Kernel,
+    rules: &Rules,
     rule: TermRule,
     t: &Term,
 ) -> Result<Thm, AllocError>
-    requires base { HasBase k.old.defs }
+    requires rules { HasRules k.old rules.now }
     requires over { IsOver (signature_of k.old.defs) [] t.now }
     requires fits { IsSome (term_rule rule t.now) }
     ensures exact { IfOk result (λ th. term_rule rule t.now ≡ Some th.sequent) }
@@ -42,11 +42,12 @@ pub(crate) fn by_term(
 pub(crate) fn by_term_and_thm(
     alloc: Global,
     k: &mut Kernel,
+    rules: &Rules,
     rule: TermThmRule,
     t: &Term,
     a: &Thm,
 ) -> Result<Thm, AllocError>
-    requires base { HasBase k.old.defs }
+    requires rules { HasRules k.old rules.now }
     requires over { IsOver (signature_of k.old.defs) [] t.now }
     requires has_a { Has k.old a.now }
     requires fits { IsSome (term_thm_rule rule t.now a.now.sequent) }
@@ -61,11 +62,11 @@ pub(crate) fn by_term_and_thm(
         }
         TermThmRule::Gen => {
             let v = variable_of(k, t);
-            gen_(alloc, k, v, a)
+            rules.gen_(alloc, k, v, a)
         }
-        TermThmRule::DisjR => disj_r(alloc, k, t, a),
-        TermThmRule::Disch => disch(alloc, k, t, a),
-        TermThmRule::Spec => spec(alloc, k, t, a),
+        TermThmRule::DisjR => rules.disj_r(alloc, k, t, a),
+        TermThmRule::Disch => rules.disch(alloc, k, t, a),
+        TermThmRule::Spec => rules.spec(alloc, k, t, a),
         TermThmRule::RewriteAll => rewritten(alloc, k, t, a),
     }
 }

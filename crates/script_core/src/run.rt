@@ -6,7 +6,9 @@ ghost use Rattle.hol_terms.specs.Signature.{IsTyOver, IsOver};
 ghost use Rattle.hol_terms.specs.Reading.{reading_of_type, reading_of_term};
 ghost use Rattle.hol_text.specs.Over.{GivesTypes};
 ghost use Rattle.hol_kernel.specs.State.{Has, Grows};
+ghost use Rattle.library_facts.specs.Facts.{statement_of, statements_of};
 ghost use Rattle.kernel_lines.specs.Bases.{HasBase};
+ghost use Rattle.nd_rules.specs.Kept.{HasRules};
 ghost use Rattle.kernel_lines.specs.Ready.{behind, sequents, AllHad};
 ghost use Rattle.script_core.specs.Words.{words};
 ghost use Rattle.script_core.specs.Steps.{inferred};
@@ -24,6 +26,7 @@ use hol_terms::terms::Term;
 use hol_terms::types::HolType;
 use hol_text::read::{ReadError, read_term, read_type};
 use library_facts::Fact;
+use nd_rules::Rules;
 use std::alloc::{AllocError, Global};
 
 /// What a table is given beside facts: the first types, the first terms, and the theorems behind those of the facts.
@@ -83,11 +86,12 @@ fn term_read(alloc: Global, k: &Kernel, text: &str) -> Result<Term, AllocError>
 fn thm_made(
     alloc: Global,
     k: &mut Kernel,
+    rules: &Rules,
     r: &Entries,
     rule: Rule,
     text: &str,
 ) -> Result<Thm, AllocError>
-    requires base { HasBase k.old.defs }
+    requires rules { HasRules k.old rules.now }
     requires ready { IsReady k.old r.now }
     requires fits { IsSome (inferred k.old.defs (values r.now) rule (words text.now)) }
     ensures exact { IfOk result (λ th. inferred k.old.defs (values r.now) rule (words text.now) ≡ Some th.sequent) }
@@ -95,7 +99,7 @@ fn thm_made(
     ensures grows { Grows k.old k.new }
 {
     let words = words(alloc, text)?;
-    infer(alloc, k, r, rule, &words)
+    infer(alloc, k, rules, r, rule, &words)
 }
 
 /// Puts a type behind the others.
@@ -139,11 +143,12 @@ fn push_thm(k: &Kernel, r: &mut Entries, th: Thm) -> Result<(), AllocError>
 fn add_entry(
     alloc: Global,
     k: &mut Kernel,
+    rules: &Rules,
     r: &mut Entries,
     kind: LineKind,
     text: &str,
 ) -> Result<(), AllocError>
-    requires base { HasBase k.old.defs }
+    requires rules { HasRules k.old rules.now }
     requires typed { GivesTypes (signature_of k.old.defs) }
     requires ready { IsReady k.old r.old }
     requires fits { IsSome (stepped k.old.defs (values r.old) kind text.now) }
@@ -163,7 +168,7 @@ fn add_entry(
             Ok(())
         }
         LineKind::Step(rule) => {
-            let th = thm_made(alloc, k, r, rule, text)?;
+            let th = thm_made(alloc, k, rules, r, rule, text)?;
             push_thm(k, r, th)?;
             Ok(())
         }
@@ -172,8 +177,14 @@ fn add_entry(
 
 /// Follows a line.
 #[tactic(auto, using(crate::proofs::TableLemmas::line_lemmas))]
-fn run_line(alloc: Global, k: &mut Kernel, r: &mut Entries, line: &str) -> Result<(), AllocError>
-    requires base { HasBase k.old.defs }
+fn run_line(
+    alloc: Global,
+    k: &mut Kernel,
+    rules: &Rules,
+    r: &mut Entries,
+    line: &str,
+) -> Result<(), AllocError>
+    requires rules { HasRules k.old rules.now }
     requires typed { GivesTypes (signature_of k.old.defs) }
     requires ready { IsReady k.old r.old }
     requires fits { LineFits k.old.defs (values r.old) line.now }
@@ -185,14 +196,20 @@ fn run_line(alloc: Global, k: &mut Kernel, r: &mut Entries, line: &str) -> Resul
     let Some(kind) = kind_named(word) else {
         unreachable!();
     };
-    add_entry(alloc, k, r, kind, text)?;
+    add_entry(alloc, k, rules, r, kind, text)?;
     Ok(())
 }
 
 /// The last theorem, after the lines.
 #[tactic(auto, using(crate::proofs::TableLemmas::loop_lemmas))]
-fn run_lines(alloc: Global, k: &mut Kernel, r: Entries, lines: &[&str]) -> Result<Thm, AllocError>
-    requires base { HasBase k.old.defs }
+fn run_lines(
+    alloc: Global,
+    k: &mut Kernel,
+    rules: &Rules,
+    r: Entries,
+    lines: &[&str],
+) -> Result<Thm, AllocError>
+    requires rules { HasRules k.old rules.now }
     requires typed { GivesTypes (signature_of k.old.defs) }
     requires ready { IsReady k.old r }
     requires fits { IsSome (run k.old.defs (values r) (behind lines.now)) }
@@ -202,7 +219,7 @@ fn run_lines(alloc: Global, k: &mut Kernel, r: Entries, lines: &[&str]) -> Resul
 {
     let mut r = r;
     for line in lines {
-        run_line(alloc, k, &mut r, line)?;
+        run_line(alloc, k, rules, &mut r, line)?;
     }
     match r.thms.pop() {
         Some(th) => Ok(th),
@@ -224,10 +241,10 @@ fn check_types(alloc: Global, k: &Kernel) -> Result<(), AllocError>
 /// The theorem of a fact that is on the shelf.
 #[tactic(auto, using(crate::proofs::ShelfLemmas::known_lemmas))]
 fn known<'a>(s: &'a Shelf, k: &Kernel, fact: Fact) -> &'a Thm
-    requires on { IsOn s.now fact }
+    requires on { IsOn s.now (statement_of fact) }
     requires had { ShelfHad k.now s.now }
     ensures has { Has k.now result.now }
-    ensures stated { IsFact fact result.now.sequent }
+    ensures stated { IsFact (statement_of fact) result.now.sequent }
 {
     match s.get(fact) {
         Some(th) => th,
@@ -238,9 +255,9 @@ fn known<'a>(s: &'a Shelf, k: &Kernel, fact: Fact) -> &'a Thm
 /// Copies the theorems of the facts.
 #[tactic(auto, using(crate::proofs::ShelfLemmas::premise_lemmas))]
 fn premises(alloc: Global, k: &Kernel, s: &Shelf, facts: &[Fact]) -> Result<Vec<Thm>, AllocError>
-    requires on { AreOn s.now facts.now }
+    requires on { AreOn s.now (statements_of facts.now) }
     requires had { ShelfHad k.now s.now }
-    ensures exact { IfOk result (λ v. facts_put [] facts.now ≡ Some (sequents v.items)) }
+    ensures exact { IfOk result (λ v. facts_put [] (statements_of facts.now) ≡ Some (sequents v.items)) }
     ensures had { IfOk result (λ v. AllHad k.now v.items) }
 {
     let mut thms = Vec::new(alloc);
@@ -289,10 +306,10 @@ fn start(
     facts: &[Fact],
     given: &Given<'_>,
 ) -> Result<Entries, AllocError>
-    requires on { AreOn s.now facts.now }
+    requires on { AreOn s.now (statements_of facts.now) }
     requires had { ShelfHad k.now s.now }
     requires given { IsGiven k.now given.now }
-    ensures exact { IfOk result (λ r. StartsFrom facts.now (given_values given.now) (values r)) }
+    ensures exact { IfOk result (λ r. StartsFrom (statements_of facts.now) (given_values given.now) (values r)) }
     ensures ready { IfOk result (λ r. IsReady k.now r) }
 {
     let types = copy_types(alloc, given.types)?;
@@ -310,23 +327,24 @@ fn start(
 pub fn run_table(
     alloc: Global,
     k: &mut Kernel,
+    rules: &Rules,
     s: &Shelf,
     facts: &[Fact],
     given: &Given<'_>,
     table: &str,
 ) -> Result<Thm, AllocError>
-    requires base { HasBase k.old.defs }
+    requires rules { HasRules k.old rules.now }
     requires shelf { ShelfHad k.old s.now }
-    requires listed { AreOn s.now facts.now }
+    requires listed { AreOn s.now (statements_of facts.now) }
     requires given { IsGiven k.old given.now }
-    requires fits { Fits k.old.defs facts.now (given_values given.now) table.now }
-    ensures exact { IfOk result (λ th. Gives k.old.defs facts.now (given_values given.now) table.now th.sequent) }
+    requires fits { Fits k.old.defs (statements_of facts.now) (given_values given.now) table.now }
+    ensures exact { IfOk result (λ th. Gives k.old.defs (statements_of facts.now) (given_values given.now) table.now th.sequent) }
     ensures has { IfOk result (λ th. Has k.new th) }
     ensures grows { Grows k.old k.new }
 {
     check_types(alloc, k)?;
     let r = start(alloc, k, s, facts, given)?;
     let lines = lines(alloc, table)?;
-    let th = run_lines(alloc, k, r, &lines)?;
+    let th = run_lines(alloc, k, rules, r, &lines)?;
     Ok(th)
 }

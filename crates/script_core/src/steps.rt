@@ -6,6 +6,7 @@ ghost use Rattle.hol_kernel.specs.Run.{axiom_at};
 ghost use Rattle.nd_rules.specs.Connectives.{disj_l_rule, disj_e_rule};
 ghost use Rattle.nd_rules.specs.Binders.{ex_i_rule, choose_rule, subst_rule};
 ghost use Rattle.kernel_lines.specs.Bases.{HasBase};
+ghost use Rattle.nd_rules.specs.Kept.{HasRules};
 ghost use Rattle.kernel_lines.specs.Lines.{on};
 ghost use Rattle.kernel_lines.specs.Ready.{behind, sequents};
 ghost use Rattle.script_core.specs.Steps.{of_one, of_two, of_three, of_four, of_variable, term_rule, thm_rule, two_thm_rule, term_thm_rule, said_rule, type_instance, term_instance, rewritten_at, axiom_numbered, inferred};
@@ -19,18 +20,18 @@ use crate::pairs::{path_of, put_terms, put_types};
 use crate::rule::{DefRule, Rule, TermRule, TermThmRule, ThmRule, TwoThmRule};
 use crate::words::number;
 use hol_kernel::{Kernel, Thm};
-use nd_rules::binders::{choose, ex_i, subst};
-use nd_rules::connectives::{disj_e, disj_l};
+use nd_rules::Rules;
 use std::alloc::{AllocError, Global};
 
 fn of_term(
     alloc: Global,
     k: &mut Kernel,
+    rules: &Rules,
     r: &Entries,
     rule: TermRule,
     words: &[&str],
 ) -> Result<Thm, AllocError>
-    requires base { HasBase k.old.defs }
+    requires rules { HasRules k.old rules.now }
     requires ready { IsReady k.old r.now }
     requires fits { IsSome (of_one r.now.terms.items (term_rule rule) (behind words.now)) }
     ensures exact { IfOk result (λ th. of_one r.now.terms.items (term_rule rule) (behind words.now) ≡ Some th.sequent) }
@@ -40,7 +41,7 @@ fn of_term(
     match words {
         [t] => {
             let t = term_at(k, r, t);
-            by_term(alloc, k, rule, t)
+            by_term(alloc, k, rules, rule, t)
         }
         _ => unreachable!(),
     }
@@ -49,11 +50,12 @@ fn of_term(
 fn of_thm(
     alloc: Global,
     k: &mut Kernel,
+    rules: &Rules,
     r: &Entries,
     rule: ThmRule,
     words: &[&str],
 ) -> Result<Thm, AllocError>
-    requires base { HasBase k.old.defs }
+    requires rules { HasRules k.old rules.now }
     requires ready { IsReady k.old r.now }
     requires fits { IsSome (of_one (sequents r.now.thms.items) (thm_rule rule) (behind words.now)) }
     ensures exact { IfOk result (λ th. of_one (sequents r.now.thms.items) (thm_rule rule) (behind words.now) ≡ Some th.sequent) }
@@ -63,7 +65,7 @@ fn of_thm(
     match words {
         [a] => {
             let a = thm_at(k, r, a);
-            by_thm(alloc, k, rule, a)
+            by_thm(alloc, k, rules, rule, a)
         }
         _ => unreachable!(),
     }
@@ -72,11 +74,12 @@ fn of_thm(
 fn of_two_thms(
     alloc: Global,
     k: &mut Kernel,
+    rules: &Rules,
     r: &Entries,
     rule: TwoThmRule,
     words: &[&str],
 ) -> Result<Thm, AllocError>
-    requires base { HasBase k.old.defs }
+    requires rules { HasRules k.old rules.now }
     requires ready { IsReady k.old r.now }
     requires fits { IsSome (of_two (sequents r.now.thms.items) (sequents r.now.thms.items) (two_thm_rule rule) (behind words.now)) }
     ensures exact { IfOk result (λ th. of_two (sequents r.now.thms.items) (sequents r.now.thms.items) (two_thm_rule rule) (behind words.now) ≡ Some th.sequent) }
@@ -87,7 +90,7 @@ fn of_two_thms(
         [a, b] => {
             let a = thm_at(k, r, a);
             let b = thm_at(k, r, b);
-            by_two_thms(alloc, k, rule, a, b)
+            by_two_thms(alloc, k, rules, rule, a, b)
         }
         _ => unreachable!(),
     }
@@ -96,11 +99,12 @@ fn of_two_thms(
 fn of_term_and_thm(
     alloc: Global,
     k: &mut Kernel,
+    rules: &Rules,
     r: &Entries,
     rule: TermThmRule,
     words: &[&str],
 ) -> Result<Thm, AllocError>
-    requires base { HasBase k.old.defs }
+    requires rules { HasRules k.old rules.now }
     requires ready { IsReady k.old r.now }
     requires fits { IsSome (of_two r.now.terms.items (sequents r.now.thms.items) (term_thm_rule rule) (behind words.now)) }
     ensures exact { IfOk result (λ th. of_two r.now.terms.items (sequents r.now.thms.items) (term_thm_rule rule) (behind words.now) ≡ Some th.sequent) }
@@ -111,7 +115,7 @@ fn of_term_and_thm(
         [t, a] => {
             let t = term_at(k, r, t);
             let a = thm_at(k, r, a);
-            by_term_and_thm(alloc, k, rule, t, a)
+            by_term_and_thm(alloc, k, rules, rule, t, a)
         }
         _ => unreachable!(),
     }
@@ -176,8 +180,14 @@ fn axiom(alloc: Global, k: &mut Kernel, words: &[&str]) -> Result<Thm, AllocErro
     }
 }
 
-fn or_left(alloc: Global, k: &mut Kernel, r: &Entries, words: &[&str]) -> Result<Thm, AllocError>
-    requires base { HasBase k.old.defs }
+fn or_left(
+    alloc: Global,
+    k: &mut Kernel,
+    rules: &Rules,
+    r: &Entries,
+    words: &[&str],
+) -> Result<Thm, AllocError>
+    requires rules { HasRules k.old rules.now }
     requires ready { IsReady k.old r.now }
     requires fits { IsSome (of_two (sequents r.now.thms.items) r.now.terms.items (λ a q. disj_l_rule a q) (behind words.now)) }
     ensures exact { IfOk result (λ th. of_two (sequents r.now.thms.items) r.now.terms.items (λ a q. disj_l_rule a q) (behind words.now) ≡ Some th.sequent) }
@@ -188,14 +198,20 @@ fn or_left(alloc: Global, k: &mut Kernel, r: &Entries, words: &[&str]) -> Result
         [a, q] => {
             let a = thm_at(k, r, a);
             let q = term_at(k, r, q);
-            disj_l(alloc, k, a, q)
+            rules.disj_l(alloc, k, a, q)
         }
         _ => unreachable!(),
     }
 }
 
-fn by_cases(alloc: Global, k: &mut Kernel, r: &Entries, words: &[&str]) -> Result<Thm, AllocError>
-    requires base { HasBase k.old.defs }
+fn by_cases(
+    alloc: Global,
+    k: &mut Kernel,
+    rules: &Rules,
+    r: &Entries,
+    words: &[&str],
+) -> Result<Thm, AllocError>
+    requires rules { HasRules k.old rules.now }
     requires ready { IsReady k.old r.now }
     requires fits { IsSome (of_three (sequents r.now.thms.items) (sequents r.now.thms.items) (sequents r.now.thms.items) (λ a b c. disj_e_rule a b c) (behind words.now)) }
     ensures exact { IfOk result (λ th. of_three (sequents r.now.thms.items) (sequents r.now.thms.items) (sequents r.now.thms.items) (λ a b c. disj_e_rule a b c) (behind words.now) ≡ Some th.sequent) }
@@ -207,14 +223,20 @@ fn by_cases(alloc: Global, k: &mut Kernel, r: &Entries, words: &[&str]) -> Resul
             let a = thm_at(k, r, a);
             let b = thm_at(k, r, b);
             let c = thm_at(k, r, c);
-            disj_e(alloc, k, a, b, c)
+            rules.disj_e(alloc, k, a, b, c)
         }
         _ => unreachable!(),
     }
 }
 
-fn witnessed(alloc: Global, k: &mut Kernel, r: &Entries, words: &[&str]) -> Result<Thm, AllocError>
-    requires base { HasBase k.old.defs }
+fn witnessed(
+    alloc: Global,
+    k: &mut Kernel,
+    rules: &Rules,
+    r: &Entries,
+    words: &[&str],
+) -> Result<Thm, AllocError>
+    requires rules { HasRules k.old rules.now }
     requires ready { IsReady k.old r.now }
     requires fits { IsSome (of_three r.now.terms.items r.now.terms.items (sequents r.now.thms.items) (λ e t a. ex_i_rule e t a) (behind words.now)) }
     ensures exact { IfOk result (λ th. of_three r.now.terms.items r.now.terms.items (sequents r.now.thms.items) (λ e t a. ex_i_rule e t a) (behind words.now) ≡ Some th.sequent) }
@@ -226,14 +248,20 @@ fn witnessed(alloc: Global, k: &mut Kernel, r: &Entries, words: &[&str]) -> Resu
             let e = term_at(k, r, e);
             let t = term_at(k, r, t);
             let a = thm_at(k, r, a);
-            ex_i(alloc, k, e, t, a)
+            rules.ex_i(alloc, k, e, t, a)
         }
         _ => unreachable!(),
     }
 }
 
-fn chosen(alloc: Global, k: &mut Kernel, r: &Entries, words: &[&str]) -> Result<Thm, AllocError>
-    requires base { HasBase k.old.defs }
+fn chosen(
+    alloc: Global,
+    k: &mut Kernel,
+    rules: &Rules,
+    r: &Entries,
+    words: &[&str],
+) -> Result<Thm, AllocError>
+    requires rules { HasRules k.old rules.now }
     requires ready { IsReady k.old r.now }
     requires fits { IsSome (of_three r.now.terms.items (sequents r.now.thms.items) (sequents r.now.thms.items) (λ t a b. of_variable t (λ v. choose_rule v a b)) (behind words.now)) }
     ensures exact { IfOk result (λ th. of_three r.now.terms.items (sequents r.now.thms.items) (sequents r.now.thms.items) (λ t a b. of_variable t (λ v. choose_rule v a b)) (behind words.now) ≡ Some th.sequent) }
@@ -246,7 +274,7 @@ fn chosen(alloc: Global, k: &mut Kernel, r: &Entries, words: &[&str]) -> Result<
             let v = variable_of(k, t);
             let a = thm_at(k, r, a);
             let b = thm_at(k, r, b);
-            choose(alloc, k, v, a, b)
+            rules.choose(alloc, k, v, a, b)
         }
         _ => unreachable!(),
     }
@@ -255,10 +283,11 @@ fn chosen(alloc: Global, k: &mut Kernel, r: &Entries, words: &[&str]) -> Result<
 fn substituted(
     alloc: Global,
     k: &mut Kernel,
+    rules: &Rules,
     r: &Entries,
     words: &[&str],
 ) -> Result<Thm, AllocError>
-    requires base { HasBase k.old.defs }
+    requires rules { HasRules k.old rules.now }
     requires ready { IsReady k.old r.now }
     requires fits { IsSome (of_four r.now.terms.items r.now.terms.items (sequents r.now.thms.items) (sequents r.now.thms.items) (λ x t a b. of_variable x (λ v. subst_rule v t a b)) (behind words.now)) }
     ensures exact { IfOk result (λ th. of_four r.now.terms.items r.now.terms.items (sequents r.now.thms.items) (sequents r.now.thms.items) (λ x t a b. of_variable x (λ v. subst_rule v t a b)) (behind words.now) ≡ Some th.sequent) }
@@ -272,7 +301,7 @@ fn substituted(
             let t = term_at(k, r, t);
             let a = thm_at(k, r, a);
             let b = thm_at(k, r, b);
-            subst(alloc, k, v, t, a, b)
+            rules.subst(alloc, k, v, t, a, b)
         }
         _ => unreachable!(),
     }
@@ -352,11 +381,12 @@ fn rewritten_by_path(
 pub(crate) fn infer(
     alloc: Global,
     k: &mut Kernel,
+    rules: &Rules,
     r: &Entries,
     rule: Rule,
     words: &[&str],
 ) -> Result<Thm, AllocError>
-    requires base { HasBase k.old.defs }
+    requires rules { HasRules k.old rules.now }
     requires ready { IsReady k.old r.now }
     requires fits { IsSome (inferred k.old.defs (values r.now) rule (behind words.now)) }
     ensures exact { IfOk result (λ th. inferred k.old.defs (values r.now) rule (behind words.now) ≡ Some th.sequent) }
@@ -364,17 +394,17 @@ pub(crate) fn infer(
     ensures grows { Grows k.old k.new }
 {
     match rule {
-        Rule::OfTerm(rule) => of_term(alloc, k, r, rule, words),
-        Rule::OfThm(rule) => of_thm(alloc, k, r, rule, words),
-        Rule::OfTwoThms(rule) => of_two_thms(alloc, k, r, rule, words),
-        Rule::OfTermAndThm(rule) => of_term_and_thm(alloc, k, r, rule, words),
+        Rule::OfTerm(rule) => of_term(alloc, k, rules, r, rule, words),
+        Rule::OfThm(rule) => of_thm(alloc, k, rules, r, rule, words),
+        Rule::OfTwoThms(rule) => of_two_thms(alloc, k, rules, r, rule, words),
+        Rule::OfTermAndThm(rule) => of_term_and_thm(alloc, k, rules, r, rule, words),
         Rule::OfDefinition(rule) => of_definition(alloc, k, rule, words),
         Rule::Axiom => axiom(alloc, k, words),
-        Rule::DisjL => or_left(alloc, k, r, words),
-        Rule::DisjE => by_cases(alloc, k, r, words),
-        Rule::ExI => witnessed(alloc, k, r, words),
-        Rule::Choose => chosen(alloc, k, r, words),
-        Rule::Subst => substituted(alloc, k, r, words),
+        Rule::DisjL => or_left(alloc, k, rules, r, words),
+        Rule::DisjE => by_cases(alloc, k, rules, r, words),
+        Rule::ExI => witnessed(alloc, k, rules, r, words),
+        Rule::Choose => chosen(alloc, k, rules, r, words),
+        Rule::Subst => substituted(alloc, k, rules, r, words),
         Rule::InstType => type_instance(alloc, k, r, words),
         Rule::Inst => term_instance(alloc, k, r, words),
         Rule::RewriteAt => rewritten_by_path(alloc, k, r, words),

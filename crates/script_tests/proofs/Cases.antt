@@ -4,11 +4,12 @@ use Rattle.std.proofs.lemmas.List.Elements.{All-nil, All-cons, All-get_or}
 use Rattle.std.specs.Prelude.{ℕ, ◌<◌, get_or, length}
 use Rattle.std.specs.Borrow.{Bor}
 use Rattle.hol_terms.specs.Definition.{Definition}
+use Rattle.hol_terms.specs.Sequent.{Sequent}
 use Rattle.hol_terms.specs.Text.{Text}
 use Rattle.hol_terms.proofs.Tables.{and_left, and_right}
 use Rattle.kernel_lines.specs.Bases.{HasBase}
 use Rattle.script_core.specs.Tables.{table_sequent}
-use Rattle.script_core.specs.Ready.{Fits}
+use Rattle.script_core.specs.Ready.{Fits, Gives}
 use Rattle.script_core.proofs.Closed.{base_is}
 use Rattle.script_tests.specs.Closed.{nothing, AllFit}
 
@@ -27,6 +28,9 @@ fit_at ds cases i d h l = All-get_or (λ c. Fits ds [] nothing c.0.now) cases i 
 
 pub fit_same : (ds es : List Definition) (table : Text) → Fits ds [] nothing table → es ≡ ds → Fits es [] nothing table
 fit_same ds es table h e = subst (λ fs. Fits fs [] nothing table) (sym e) h
+
+pub gives_same : (ds es : List Definition) (table : Text) (a : Sequent) → Gives es [] nothing table a → es ≡ ds → Gives ds [] nothing table a
+gives_same ds es table a h e = subst (λ fs. Gives fs [] nothing table a) e h
 
 pub all_same : (ds es : List Definition) (cases : List (Bor Text × Bor Text)) → AllFit ds cases → es ≡ ds → AllFit es cases
 all_same ds es cases h e = subst (λ fs. AllFit fs cases) (sym e) h

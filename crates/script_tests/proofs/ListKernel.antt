@@ -4,17 +4,19 @@ use Rattle.std.specs.Prelude.{IfSome}
 use Rattle.hol_terms.specs.Name.{Name}
 use Rattle.hol_terms.specs.Ty.{Ty, ty_var}
 use Rattle.hol_terms.specs.Tm.{Tm}
-use Rattle.hol_terms.specs.Definition.{Definition, const_def, type_def, alpha, bool_ty}
+use Rattle.hol_terms.specs.Signature.{IsOver}
+use Rattle.hol_terms.specs.Definition.{Definition, const_def, type_def, alpha, bool_ty, signature_of}
 use Rattle.hol_terms.specs.Notation.{◌⇒◌, ◌·◌, ix, lam}
 use Rattle.hol_terms.specs.Logic.{const_some, const_T}
 use Rattle.hol_terms.specs.Base.{base}
 use Rattle.hol_terms.specs.Sequent.{Sequent, seq, eq_tm, argument, IsEq}
+use Rattle.hol_terms.specs.Proves.{IsDerivable}
 use Rattle.hol_terms.specs.Text.{Text}
-use Rattle.hol_kernel.specs.State.{State, Theorem}
+use Rattle.hol_kernel.specs.State.{State, Theorem, Has}
 use Rattle.hol_kernel.specs.Fault.{predicate_of}
 use Rattle.hol_kernel.specs.NewType.{IsNewType}
+use Rattle.hol_conv.proofs.RewriteLemmas.{sides}
 use Rattle.kernel_lines.specs.Bases.{HasBase}
-use Rattle.nd_rules.proofs.BinderSteps.{over_right}
 use Rattle.script_core.specs.Tables.{table_sequent}
 use Rattle.script_core.specs.Ready.{Fits, Gives}
 use Rattle.script_core.proofs.Closed.{closed_table, base_is}
@@ -38,6 +40,9 @@ pub side_gives : (ds : List Definition) (table : Text) (a : Sequent) (p t : Tm) 
 side_gives ds table a p t h g e f =
     let is_term : h.term ≡ t = ap (λ (b : Sequent). argument b.concl) (gives_one h.gives g) ∙ (ap argument (sym e) ∙ sym f) in
     subst (λ s. Gives ds [] nothing table (seq [] (eq_tm s s))) is_term h.gives
+
+pub over_right : (k : State) (a : Theorem) (p r : Tm) → Has k a → IsDerivable a.defs a.sequent → IsEq a.sequent.concl → p ≡ a.sequent.concl → r ≡ argument p → IsOver (signature_of k.defs) [] r
+over_right k a p r h d e f g = subst (IsOver (signature_of k.defs) []) (sym (g ∙ ap argument f)) (sides k a h d e).right
 
 pub ruleset side_lemmas = (side_fits, side_is_eq, side_gives, over_right)
 

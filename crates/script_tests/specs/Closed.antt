@@ -17,6 +17,10 @@ nothing = record { types = []; terms = []; thms = [] }
 abbrev pub variable : FreeVar
 variable = record { name = codes "p"; ty = bool_ty }
 
+-- `T`, which is a fact
+abbrev pub truth_text : Text
+truth_text = codes "T"
+
 -- the first ten base definitions, and that of a type behind them
 pub record HasType (ds : List Definition) : Type 0 where
   pub name : Name

@@ -4,6 +4,8 @@ ghost use Rattle.std.specs.Prelude.{◌≡◌, [], IfOk, OnOk};
 ghost use Rattle.hol_terms.specs.Base.{base};
 ghost use Rattle.hol_kernel.specs.State.{Has, Grows};
 ghost use Rattle.kernel_lines.specs.Bases.{HasBase};
+ghost use Rattle.library_facts.specs.Facts.{statements_of};
+ghost use Rattle.nd_rules.specs.Kept.{HasRules};
 ghost use Rattle.script_core.specs.Shelves.{AreOn, ShelfHad};
 ghost use Rattle.script_core.specs.Ready.{Fits, Gives};
 ghost use Rattle.script_tests.specs.Closed.{nothing, AllFit};
@@ -12,6 +14,7 @@ use hol_kernel::{Kernel, Thm};
 use hol_text::print::push_term;
 use kernel_lines::start;
 use library_facts::Fact;
+use nd_rules::Rules;
 use script_core::{Given, Shelf, run_table};
 use std::alloc::{AllocError, Global};
 
@@ -19,15 +22,16 @@ use std::alloc::{AllocError, Global};
 pub(crate) fn run_closed(
     alloc: Global,
     k: &mut Kernel,
+    rules: &Rules,
     s: &Shelf,
     facts: &[Fact],
     table: &str,
 ) -> Result<Thm, AllocError>
-    requires base { HasBase k.old.defs }
+    requires rules { HasRules k.old rules.now }
     requires shelf { ShelfHad k.old s.now }
-    requires listed { AreOn s.now facts.now }
-    requires fits { Fits k.old.defs facts.now nothing table.now }
-    ensures exact { IfOk result (λ th. Gives k.old.defs facts.now nothing table.now th.sequent) }
+    requires listed { AreOn s.now (statements_of facts.now) }
+    requires fits { Fits k.old.defs (statements_of facts.now) nothing table.now }
+    ensures exact { IfOk result (λ th. Gives k.old.defs (statements_of facts.now) nothing table.now th.sequent) }
     ensures has { IfOk result (λ th. Has k.new th) }
     ensures grows { Grows k.old k.new }
 {
@@ -36,7 +40,7 @@ pub(crate) fn run_closed(
         terms: &[],
         thms: &[],
     };
-    let th = run_table(alloc, k, s, facts, &given, table);
+    let th = run_table(alloc, k, rules, s, facts, &given, table);
     let Given {
         types: _,
         terms: _,
@@ -46,6 +50,7 @@ pub(crate) fn run_closed(
 }
 
 // The last theorem of a table that takes nothing.
+#[tactic(auto, using(kernel_lines::proofs::Given::grows_lemmas))]
 pub(crate) fn derived(alloc: Global, k: &mut Kernel, table: &str) -> Result<Thm, AllocError>
     requires base { HasBase k.old.defs }
     requires fits { Fits k.old.defs [] nothing table.now }
@@ -53,8 +58,9 @@ pub(crate) fn derived(alloc: Global, k: &mut Kernel, table: &str) -> Result<Thm,
     ensures has { IfOk result (λ th. Has k.new th) }
     ensures grows { Grows k.old k.new }
 {
+    let rules = Rules::new(alloc, k)?;
     let shelf = Shelf::new(alloc)?;
-    let th = run_closed(alloc, k, &shelf, &[], table)?;
+    let th = run_closed(alloc, k, &rules, &shelf, &[], table)?;
     Ok(th)
 }
 

@@ -13,6 +13,7 @@ use hol_kernel::{Kernel, Thm};
 use hol_terms::terms::{Term, Var};
 use hol_terms::types::HolType;
 use kernel_lines::start;
+use nd_rules::Rules;
 use script_core::{Given, Shelf, run_table};
 use std::alloc::{AllocError, Global};
 use std::test::Fail;
@@ -63,13 +64,14 @@ fn run_given(
     requires a { a.now.sequent ≡ seq (tm_free variable ∷ []) (tm_free variable) }
     requires has { Has k.old a.now }
 {
+    let rules = Rules::new(alloc, k)?;
     let shelf = Shelf::new(alloc)?;
     let given = Given {
         types,
         terms,
         thms: &[a],
     };
-    let th = run_table(alloc, k, &shelf, &[], &given, TABLE);
+    let th = run_table(alloc, k, &rules, &shelf, &[], &given, TABLE);
     let Given {
         types: _,
         terms: _,

@@ -4,16 +4,22 @@ ghost use Rattle.std.specs.Prelude.{◌≡◌, IfOk, OnOk};
 ghost use Rattle.hol_terms.specs.Base.{base};
 ghost use Rattle.hol_kernel.specs.State.{Has};
 ghost use Rattle.script_core.specs.Shelves.{IsFact, IsOn, ShelfHad};
+ghost use Rattle.script_tests.specs.Closed.{truth_text};
 
 use crate::closed::{derived, run_closed, says};
 use hol_kernel::{Kernel, Thm};
 use kernel_lines::start;
-use library_facts::{Fact, LogicFact};
+use library_facts::Fact;
+use nd_rules::Rules;
 use script_core::Shelf;
 use std::alloc::{AllocError, Global};
 use std::test::Fail;
 
-const TRUTH: &str = "\
+const TRUTH: Fact = Fact { statement: "T" };
+
+const FALSITY: Fact = Fact { statement: "F" };
+
+const TRUTH_TABLE: &str = "\
     term T\n\
     refl 0\n\
     eqt_e 0\n\
@@ -22,11 +28,11 @@ const TRUTH: &str = "\
 // `|- T`, which is a fact.
 fn truth(alloc: Global, k: &mut Kernel) -> Result<Thm, AllocError>
     requires { k.old.defs ≡ base 10 }
-    ensures fact { IfOk result (λ th. IsFact (Fact.Logic LogicFact.Truth) th.sequent) }
+    ensures fact { IfOk result (λ th. IsFact truth_text th.sequent) }
     ensures has { IfOk result (λ th. Has k.new th) }
     ensures defs { OnOk result (k.new.defs ≡ base 10) }
 {
-    let th = derived(alloc, k, TRUTH)?;
+    let th = derived(alloc, k, TRUTH_TABLE)?;
     Ok(th)
 }
 
@@ -34,21 +40,21 @@ fn truth(alloc: Global, k: &mut Kernel) -> Result<Thm, AllocError>
 fn shelved(alloc: Global, k: &mut Kernel) -> Result<Shelf, AllocError>
     requires { k.old.defs ≡ base 10 }
     ensures shelf { IfOk result (λ s. ShelfHad k.new s) }
-    ensures on { IfOk result (λ s. IsOn s (Fact.Logic LogicFact.Truth)) }
+    ensures on { IfOk result (λ s. IsOn s truth_text) }
     ensures defs { OnOk result (k.new.defs ≡ base 10) }
 {
     let th = truth(alloc, k)?;
     let mut shelf = Shelf::new(alloc)?;
-    shelf.put(Fact::Logic(LogicFact::Truth), th)?;
+    shelf.put(TRUTH, th)?;
     Ok(shelf)
 }
 
 // Whether what was put is got, and nothing for another fact.
 fn is_got(alloc: Global, shelf: &Shelf) -> Result<bool, AllocError> {
-    if shelf.get(Fact::Logic(LogicFact::Extensionality)).is_some() {
+    if shelf.get(FALSITY).is_some() {
         return Ok(false);
     }
-    match shelf.get(Fact::Logic(LogicFact::Truth)) {
+    match shelf.get(TRUTH) {
         Some(th) => says(alloc, th, "|- T"),
         None => Ok(false),
     }
@@ -71,8 +77,9 @@ fn facts_are_got(rt: HostRuntime) -> Result<(), Fail> {
 fn from_fact(alloc: Global) -> Result<Thm, AllocError> {
     let mut k = start(alloc)?;
     let shelf = shelved(alloc, &mut k)?;
-    let facts = [Fact::Logic(LogicFact::Truth)];
-    let th = run_closed(alloc, &mut k, &shelf, &facts, "eqt_i 0\n")?;
+    let rules = Rules::new(alloc, &mut k)?;
+    let facts = [TRUTH];
+    let th = run_closed(alloc, &mut k, &rules, &shelf, &facts, "eqt_i 0\n")?;
     Ok(th)
 }
 

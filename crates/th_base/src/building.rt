@@ -2,18 +2,21 @@
 
 ghost use Rattle.std.specs.Prelude.{◌≡◌, OnOk};
 ghost use Rattle.hol_terms.specs.Base.{base};
+ghost use Rattle.nd_rules.specs.Kept.{HasRules};
 ghost use Rattle.script_core.specs.Shelves.{AreOn, ShelfHad};
 ghost use Rattle.library_steps.specs.Building.{Keeps, Extends};
-ghost use Rattle.library_facts.specs.Libraries.{base_facts, logic_facts, product_facts, sum_facts};
+ghost use Rattle.th_base.specs.Facts.{base_facts, logic_facts, product_facts, sum_facts};
 
 use crate::tables::{logic, products, sums};
 use hol_kernel::Kernel;
 use library_steps::take_steps;
+use nd_rules::Rules;
 use script_core::Shelf;
 use std::alloc::{AllocError, Global};
 
 /// Builds the part on logic, choice, the identity and the conditional.
-fn build_logic(alloc: Global, k: &mut Kernel, s: &mut Shelf) -> Result<(), AllocError>
+fn build_logic(alloc: Global, k: &mut Kernel, rules: &Rules, s: &mut Shelf) -> Result<(), AllocError>
+    requires rules { HasRules k.old rules.now }
     requires defs { k.old.defs ≡ base 10 }
     requires shelf { ShelfHad k.old s.old }
     ensures defs { OnOk result (k.new.defs ≡ base 12) }
@@ -22,12 +25,13 @@ fn build_logic(alloc: Global, k: &mut Kernel, s: &mut Shelf) -> Result<(), Alloc
     ensures more { Extends s.old s.new }
     ensures keeps { Keeps k.old k.new }
 {
-    take_steps(alloc, k, s, &logic::STEPS)?;
+    take_steps(alloc, k, rules, s, &logic::STEPS)?;
     Ok(())
 }
 
 /// Builds the part on unit and products.
-fn build_products(alloc: Global, k: &mut Kernel, s: &mut Shelf) -> Result<(), AllocError>
+fn build_products(alloc: Global, k: &mut Kernel, rules: &Rules, s: &mut Shelf) -> Result<(), AllocError>
+    requires rules { HasRules k.old rules.now }
     requires defs { k.old.defs ≡ base 12 }
     requires logic_facts { AreOn s.old logic_facts }
     requires shelf { ShelfHad k.old s.old }
@@ -37,12 +41,13 @@ fn build_products(alloc: Global, k: &mut Kernel, s: &mut Shelf) -> Result<(), Al
     ensures more { Extends s.old s.new }
     ensures keeps { Keeps k.old k.new }
 {
-    take_steps(alloc, k, s, &products::STEPS)?;
+    take_steps(alloc, k, rules, s, &products::STEPS)?;
     Ok(())
 }
 
 /// Builds the part on sums.
-fn build_sums(alloc: Global, k: &mut Kernel, s: &mut Shelf) -> Result<(), AllocError>
+fn build_sums(alloc: Global, k: &mut Kernel, rules: &Rules, s: &mut Shelf) -> Result<(), AllocError>
+    requires rules { HasRules k.old rules.now }
     requires defs { k.old.defs ≡ base 23 }
     requires logic_facts { AreOn s.old logic_facts }
     requires product_facts { AreOn s.old product_facts }
@@ -53,14 +58,15 @@ fn build_sums(alloc: Global, k: &mut Kernel, s: &mut Shelf) -> Result<(), AllocE
     ensures more { Extends s.old s.new }
     ensures keeps { Keeps k.old k.new }
 {
-    take_steps(alloc, k, s, &sums::STEPS)?;
+    take_steps(alloc, k, rules, s, &sums::STEPS)?;
     Ok(())
 }
 
 /// Builds the first library: makes the base definitions from the eleventh to the thirty-third in a kernel that has the ten before
 /// them, and puts the facts on logic, products and sums on the shelf. What was on the shelf still is, and the kernel has the
 /// theorem of each fact there. The one error is want of memory; the kernel and the shelf then still have what they had.
-pub fn build(alloc: Global, k: &mut Kernel, s: &mut Shelf) -> Result<(), AllocError>
+pub fn build(alloc: Global, k: &mut Kernel, rules: &Rules, s: &mut Shelf) -> Result<(), AllocError>
+    requires rules { HasRules k.old rules.now }
     requires defs { k.old.defs ≡ base 10 }
     requires shelf { ShelfHad k.old s.old }
     ensures defs { OnOk result (k.new.defs ≡ base 33) }
@@ -69,8 +75,8 @@ pub fn build(alloc: Global, k: &mut Kernel, s: &mut Shelf) -> Result<(), AllocEr
     ensures more { Extends s.old s.new }
     ensures keeps { Keeps k.old k.new }
 {
-    build_logic(alloc, k, s)?;
-    build_products(alloc, k, s)?;
-    build_sums(alloc, k, s)?;
+    build_logic(alloc, k, rules, s)?;
+    build_products(alloc, k, rules, s)?;
+    build_sums(alloc, k, rules, s)?;
     Ok(())
 }

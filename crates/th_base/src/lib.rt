@@ -2,6 +2,7 @@
 #![tactic(auto)]
 
 mod building;
+pub mod facts;
 mod tables;
 
 pub use building::build;

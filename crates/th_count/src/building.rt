@@ -2,18 +2,23 @@
 
 ghost use Rattle.std.specs.Prelude.{◌≡◌, OnOk};
 ghost use Rattle.hol_terms.specs.Base.{base};
+ghost use Rattle.nd_rules.specs.Kept.{HasRules};
 ghost use Rattle.script_core.specs.Shelves.{AreOn, ShelfHad};
 ghost use Rattle.library_steps.specs.Building.{Keeps, Extends};
-ghost use Rattle.library_facts.specs.Libraries.{base_facts, number_facts, path_facts, countable_facts, cset_facts};
+ghost use Rattle.th_base.specs.Facts.{base_facts};
+ghost use Rattle.th_num.specs.Facts.{number_facts, path_facts};
+ghost use Rattle.th_count.specs.Facts.{countable_facts, cset_facts};
 
 use crate::tables::{countable, csets};
 use hol_kernel::Kernel;
 use library_steps::take_steps;
+use nd_rules::Rules;
 use script_core::Shelf;
 use std::alloc::{AllocError, Global};
 
 /// Builds the part on countable sets.
-fn build_countable(alloc: Global, k: &mut Kernel, s: &mut Shelf) -> Result<(), AllocError>
+fn build_countable(alloc: Global, k: &mut Kernel, rules: &Rules, s: &mut Shelf) -> Result<(), AllocError>
+    requires rules { HasRules k.old rules.now }
     requires defs { k.old.defs ≡ base 43 }
     requires base_facts { AreOn s.old base_facts }
     requires number_facts { AreOn s.old number_facts }
@@ -25,12 +30,13 @@ fn build_countable(alloc: Global, k: &mut Kernel, s: &mut Shelf) -> Result<(), A
     ensures more { Extends s.old s.new }
     ensures keeps { Keeps k.old k.new }
 {
-    take_steps(alloc, k, s, &countable::STEPS)?;
+    take_steps(alloc, k, rules, s, &countable::STEPS)?;
     Ok(())
 }
 
 /// Builds the part on the type of countable sets.
-fn build_csets(alloc: Global, k: &mut Kernel, s: &mut Shelf) -> Result<(), AllocError>
+fn build_csets(alloc: Global, k: &mut Kernel, rules: &Rules, s: &mut Shelf) -> Result<(), AllocError>
+    requires rules { HasRules k.old rules.now }
     requires defs { k.old.defs ≡ base 44 }
     requires base_facts { AreOn s.old base_facts }
     requires number_facts { AreOn s.old number_facts }
@@ -43,7 +49,7 @@ fn build_csets(alloc: Global, k: &mut Kernel, s: &mut Shelf) -> Result<(), Alloc
     ensures more { Extends s.old s.new }
     ensures keeps { Keeps k.old k.new }
 {
-    take_steps(alloc, k, s, &csets::STEPS)?;
+    take_steps(alloc, k, rules, s, &csets::STEPS)?;
     Ok(())
 }
 
@@ -51,7 +57,8 @@ fn build_csets(alloc: Global, k: &mut Kernel, s: &mut Shelf) -> Result<(), Alloc
 /// exactly those before them, and puts the facts on countable sets and their type on the shelf, which has those of the libraries
 /// before. What was on the shelf still is, and the kernel has the theorem of each fact there. The one error is want of memory; the
 /// kernel and the shelf then still have what they had.
-pub fn build(alloc: Global, k: &mut Kernel, s: &mut Shelf) -> Result<(), AllocError>
+pub fn build(alloc: Global, k: &mut Kernel, rules: &Rules, s: &mut Shelf) -> Result<(), AllocError>
+    requires rules { HasRules k.old rules.now }
     requires defs { k.old.defs ≡ base 43 }
     requires base_facts { AreOn s.old base_facts }
     requires number_facts { AreOn s.old number_facts }
@@ -64,7 +71,7 @@ pub fn build(alloc: Global, k: &mut Kernel, s: &mut Shelf) -> Result<(), AllocEr
     ensures more { Extends s.old s.new }
     ensures keeps { Keeps k.old k.new }
 {
-    build_countable(alloc, k, s)?;
-    build_csets(alloc, k, s)?;
+    build_countable(alloc, k, rules, s)?;
+    build_csets(alloc, k, rules, s)?;
     Ok(())
 }

@@ -3,15 +3,12 @@
 use Rattle.std.proofs.Common.{◌≡◌, true, refl, [], ◌∷◌, codes}
 use Rattle.hol_terms.specs.Base.{base}
 use Rattle.hol_terms.specs.Text.{Text}
-use Rattle.library_facts.specs.declared.facts.Fact.TheVariants.{Path, Number, Logic, Order}
-use Rattle.library_facts.specs.declared.facts.PathFact.TheVariants.{DoubleZero, DoubleSuc, EvenOddSelector, DoubleNotOdd, DoubleInjective, DoubleIsZero, LeDouble, BelowDouble, EvenOrOdd, ConsZero, ConsSuc, BelowCons, ConsNotZero, ConsStepZero, ConsZeroInjective, ConsInjective, DoubleIsCode, PathCases, PathInduction, PathRecursion}
-use Rattle.library_facts.specs.declared.facts.NumberFact.TheVariants.{RecZero, RecSuc, NumRecursion, NumInduction, SucInjective, Recursion}
-use Rattle.library_facts.specs.declared.facts.LogicFact.TheVariants.{Truth}
-use Rattle.library_facts.specs.declared.facts.OrderFact.TheVariants.{LeReflexive, LeSucSuc, LeSuc, LeTransitive, NoneBelowZero, StrongInduction}
 use Rattle.script_core.specs.Tables.{fact_sequent, table_sequent}
 use Rattle.library_steps.specs.Closed.{nothing, Proves}
 use Rattle.library_steps.specs.Building.{IsConstantAt}
 use Rattle.library_steps.proofs.Computed.{library_table, agree, proves, constant_at}
+use Rattle.th_num.specs.Facts as facts
+use Rattle.th_base.specs.Facts as th_base
 
 pub constant_41 : IsConstantAt 41
 unfolding library_table
@@ -20,91 +17,91 @@ constant_41 = constant_at refl
 abbrev double_zero : Text
 double_zero = codes "type num\ninst_type 0 a 0\nterm 0\nspec 0 1\nterm \\x0:num. \\x1:num. suc (suc x1)\nspec 1 2\ndef 41\nsym 4\nterm [v:num -> num]\nterm [v:num -> num] 0 = 0\nsubst 2 3 5 3\n"
 
-double_zero_agrees : agree (table_sequent (base 42) (Number RecZero ∷ []) nothing double_zero) (fact_sequent (Path DoubleZero)) ≡ true
+double_zero_agrees : agree (table_sequent (base 42) (facts.rec_zero ∷ []) nothing double_zero) (fact_sequent facts.double_zero) ≡ true
 unfolding library_table
 double_zero_agrees = refl
 
-pub double_zero_proves : Proves (base 42) (Number RecZero ∷ []) double_zero (Path DoubleZero)
+pub double_zero_proves : Proves (base 42) (facts.rec_zero ∷ []) double_zero facts.double_zero
 double_zero_proves = proves double_zero_agrees
 
 abbrev double_suc : Text
 double_suc = codes "type num\ninst_type 0 a 0\nterm 0\nspec 0 1\nterm \\x0:num. \\x1:num. suc (suc x1)\nspec 1 2\nnorm 3\ndef 41\nsym 5\nterm [v:num -> num]\nterm !x0:num. [v:num -> num] (suc x0) = suc (suc ([v:num -> num] x0))\nsubst 2 3 6 4\n"
 
-double_suc_agrees : agree (table_sequent (base 42) (Number RecSuc ∷ []) nothing double_suc) (fact_sequent (Path DoubleSuc)) ≡ true
+double_suc_agrees : agree (table_sequent (base 42) (facts.rec_suc ∷ []) nothing double_suc) (fact_sequent facts.double_suc) ≡ true
 unfolding library_table
 double_suc_agrees = refl
 
-pub double_suc_proves : Proves (base 42) (Number RecSuc ∷ []) double_suc (Path DoubleSuc)
+pub double_suc_proves : Proves (base 42) (facts.rec_suc ∷ []) double_suc facts.double_suc
 double_suc_proves = proves double_suc_agrees
 
 abbrev even_odd_selector : Text
 even_odd_selector = codes "type (num -> 'a) -> (num -> 'a) -> 'a\ninst_type 0 a 0\nterm \\x0:num -> 'a. \\x1:num -> 'a. x0 0\nspec 0 4\nterm \\x0:num. \\x1:(num -> 'a) -> (num -> 'a) -> 'a. \\x2:num -> 'a. \\x3:num -> 'a. x1 x3 (\\x4:num. x2 (suc x4))\nspec 1 5\nnorm 6\nterm ([r:num -> (num -> 'a) -> (num -> 'a) -> 'a] 0 = (\\x0:num -> 'a. \\x1:num -> 'a. x0 0)) /\\ (!x0:num. [r:num -> (num -> 'a) -> (num -> 'a) -> 'a] (suc x0) = (\\x1:num -> 'a. \\x2:num -> 'a. [r:num -> (num -> 'a) -> (num -> 'a) -> 'a] x0 x2 (\\x3:num. x1 (suc x3))))\nassume 2\nsym 1\nconj_l 8\nterm [n:num]\nterm [r:num -> (num -> 'a) -> (num -> 'a) -> 'a] [n:num] = (\\x0:num -> 'a. \\x1:num -> 'a. x0 0)\nsubst 3 4 9 10\nterm [r:num -> (num -> 'a) -> (num -> 'a) -> 'a] (num.dbl [n:num]) = (\\x0:num -> 'a. \\x1:num -> 'a. x0 [n:num])\nassume 5\nconj_r 8\nterm num.dbl [n:num]\nspec 6 13\nterm [v:(num -> 'a) -> (num -> 'a) -> 'a]\nterm [r:num -> (num -> 'a) -> (num -> 'a) -> 'a] (suc (num.dbl [n:num])) = (\\x0:num -> 'a. \\x1:num -> 'a. [v:(num -> 'a) -> (num -> 'a) -> 'a] x1 (\\x2:num. x0 (suc x2)))\nsubst 7 8 12 14\nnorm 15\nterm suc (num.dbl [n:num])\nspec 9 13\nterm [r:num -> (num -> 'a) -> (num -> 'a) -> 'a] (suc (suc (num.dbl [n:num]))) = (\\x0:num -> 'a. \\x1:num -> 'a. [v:(num -> 'a) -> (num -> 'a) -> 'a] x1 (\\x2:num. x0 (suc x2)))\nsubst 7 10 16 17\nnorm 18\nspec 3 2\nsym 20\nterm [v:num]\nterm [r:num -> (num -> 'a) -> (num -> 'a) -> 'a] [v:num] = (\\x0:num -> 'a. \\x1:num -> 'a. x0 (suc [n:num]))\nsubst 11 12 21 19\nterm \\x0:num. [r:num -> (num -> 'a) -> (num -> 'a) -> 'a] (num.dbl x0) = (\\x1:num -> 'a. \\x2:num -> 'a. x1 x0)\nspec 13 3\nnorm 23\ndisch 5 22\ngen 3 25\nmp 24 11\nmp 27 26\nspec 3 28\nsubst 7 8 29 14\nnorm 30\nconj_i 29 31\ngen 3 32\nterm ?x0:num -> (num -> 'a) -> (num -> 'a) -> 'a. !x1:num. (x0 (num.dbl x1) = (\\x2:num -> 'a. \\x3:num -> 'a. x2 x1)) /\\ (x0 (suc (num.dbl x1)) = (\\x2:num -> 'a. \\x3:num -> 'a. x3 x1))\nterm [r:num -> (num -> 'a) -> (num -> 'a) -> 'a]\nex_i 14 15 33\nchoose 15 7 34\n"
 
-even_odd_selector_agrees : agree (table_sequent (base 42) (Number NumRecursion ∷ Path DoubleZero ∷ Path DoubleSuc ∷ Number NumInduction ∷ []) nothing even_odd_selector) (fact_sequent (Path EvenOddSelector)) ≡ true
+even_odd_selector_agrees : agree (table_sequent (base 42) (facts.num_recursion ∷ facts.double_zero ∷ facts.double_suc ∷ facts.num_induction ∷ []) nothing even_odd_selector) (fact_sequent facts.even_odd_selector) ≡ true
 unfolding library_table
 even_odd_selector_agrees = refl
 
-pub even_odd_selector_proves : Proves (base 42) (Number NumRecursion ∷ Path DoubleZero ∷ Path DoubleSuc ∷ Number NumInduction ∷ []) even_odd_selector (Path EvenOddSelector)
+pub even_odd_selector_proves : Proves (base 42) (facts.num_recursion ∷ facts.double_zero ∷ facts.double_suc ∷ facts.num_induction ∷ []) even_odd_selector facts.even_odd_selector
 even_odd_selector_proves = proves even_odd_selector_agrees
 
 abbrev double_not_odd : Text
 double_not_odd = codes "term !x0:num. ([r:num -> (num -> bool) -> (num -> bool) -> bool] (num.dbl x0) = (\\x1:num -> bool. \\x2:num -> bool. x1 x0)) /\\ ([r:num -> (num -> bool) -> (num -> bool) -> bool] (suc (num.dbl x0)) = (\\x1:num -> bool. \\x2:num -> bool. x2 x0))\nassume 0\nterm num.dbl [m:num] = suc (num.dbl [n:num])\nassume 1\nterm [m:num]\nspec 2 2\nconj_l 4\nterm [v:num]\nterm [r:num -> (num -> bool) -> (num -> bool) -> bool] [v:num] = (\\x0:num -> bool. \\x1:num -> bool. x0 [m:num])\nsubst 3 4 3 5\nterm [n:num]\nspec 5 2\nconj_r 7\nterm [v:(num -> bool) -> (num -> bool) -> bool]\nterm [v:(num -> bool) -> (num -> bool) -> bool] = (\\x0:num -> bool. \\x1:num -> bool. x1 [n:num])\nsubst 6 7 6 8\nterm \\x0:num. T\nrefl 8\ncomb 9 10\nterm \\x0:num. F\nrefl 9\ncomb 11 12\nnorm 13\neq_mp 14 0\ntype bool\ninst_type 1 a 0\nterm [r:num -> (num -> bool) -> (num -> bool) -> bool]\nchoose 10 16 15\ndisch 1 17\nnot_i 18\ngen 5 19\ngen 2 20\n"
 
-double_not_odd_agrees : agree (table_sequent (base 42) (Logic Truth ∷ Path EvenOddSelector ∷ []) nothing double_not_odd) (fact_sequent (Path DoubleNotOdd)) ≡ true
+double_not_odd_agrees : agree (table_sequent (base 42) (th_base.truth ∷ facts.even_odd_selector ∷ []) nothing double_not_odd) (fact_sequent facts.double_not_odd) ≡ true
 unfolding library_table
 double_not_odd_agrees = refl
 
-pub double_not_odd_proves : Proves (base 42) (Logic Truth ∷ Path EvenOddSelector ∷ []) double_not_odd (Path DoubleNotOdd)
+pub double_not_odd_proves : Proves (base 42) (th_base.truth ∷ facts.even_odd_selector ∷ []) double_not_odd facts.double_not_odd
 double_not_odd_proves = proves double_not_odd_agrees
 
 abbrev double_injective : Text
 double_injective = codes "term !x0:num. ([r:num -> (num -> num) -> (num -> num) -> num] (num.dbl x0) = (\\x1:num -> num. \\x2:num -> num. x1 x0)) /\\ ([r:num -> (num -> num) -> (num -> num) -> num] (suc (num.dbl x0)) = (\\x1:num -> num. \\x2:num -> num. x2 x0))\nassume 0\nterm num.dbl [m:num] = num.dbl [n:num]\nassume 1\nterm [m:num]\nspec 2 1\nconj_l 3\nterm [v:num]\nterm [r:num -> (num -> num) -> (num -> num) -> num] [v:num] = (\\x0:num -> num. \\x1:num -> num. x0 [m:num])\nsubst 3 4 2 4\nterm [n:num]\nspec 5 1\nconj_l 6\nterm [v:(num -> num) -> (num -> num) -> num]\nterm [v:(num -> num) -> (num -> num) -> num] = (\\x0:num -> num. \\x1:num -> num. x0 [n:num])\nsubst 6 7 5 7\nterm \\x0:num. x0\nrefl 8\ncomb 8 9\ncomb 10 9\nnorm 11\ntype num\ninst_type 0 a 0\nterm [r:num -> (num -> num) -> (num -> num) -> num]\nchoose 9 13 12\ndisch 1 14\ngen 5 15\ngen 2 16\n"
 
-double_injective_agrees : agree (table_sequent (base 42) (Path EvenOddSelector ∷ []) nothing double_injective) (fact_sequent (Path DoubleInjective)) ≡ true
+double_injective_agrees : agree (table_sequent (base 42) (facts.even_odd_selector ∷ []) nothing double_injective) (fact_sequent facts.double_injective) ≡ true
 unfolding library_table
 double_injective_agrees = refl
 
-pub double_injective_proves : Proves (base 42) (Path EvenOddSelector ∷ []) double_injective (Path DoubleInjective)
+pub double_injective_proves : Proves (base 42) (facts.even_odd_selector ∷ []) double_injective facts.double_injective
 double_injective_proves = proves double_injective_agrees
 
 abbrev double_is_zero : Text
 double_is_zero = codes "term num.dbl [n:num] = 0\nassume 0\nterm [n:num]\nspec 1 0\nterm 0\nspec 2 3\nsym 1\ntrans 2 5\nmp 4 6\ndisch 0 7\ngen 1 8\n"
 
-double_is_zero_agrees : agree (table_sequent (base 42) (Path DoubleInjective ∷ Path DoubleZero ∷ []) nothing double_is_zero) (fact_sequent (Path DoubleIsZero)) ≡ true
+double_is_zero_agrees : agree (table_sequent (base 42) (facts.double_injective ∷ facts.double_zero ∷ []) nothing double_is_zero) (fact_sequent facts.double_is_zero) ≡ true
 unfolding library_table
 double_is_zero_agrees = refl
 
-pub double_is_zero_proves : Proves (base 42) (Path DoubleInjective ∷ Path DoubleZero ∷ []) double_is_zero (Path DoubleIsZero)
+pub double_is_zero_proves : Proves (base 42) (facts.double_injective ∷ facts.double_zero ∷ []) double_is_zero facts.double_is_zero
 double_is_zero_proves = proves double_is_zero_agrees
 
 abbrev le_double : Text
 le_double = codes "term num.dbl 0\nspec 0 1\nterm [n:num]\nterm num.le [n:num] (num.dbl 0)\nsubst 1 2 0 6\nspec 1 2\nterm num.dbl [n:num]\nspec 3 8\nterm num.le [n:num] (num.dbl [n:num])\nassume 4\nmp 9 10\nterm suc [n:num]\nspec 5 3\nterm suc (num.dbl [n:num])\nspec 6 12\nmp 13 11\nspec 1 4\nsym 15\nterm [v:num]\nterm num.le (suc [n:num]) [v:num]\nsubst 7 8 16 14\nterm \\x0:num. num.le x0 (num.dbl x0)\nspec 9 5\nnorm 18\ndisch 4 17\ngen 1 20\nmp 19 7\nmp 22 21\n"
 
-le_double_agrees : agree (table_sequent (base 42) (Path DoubleZero ∷ Order LeReflexive ∷ Order LeSucSuc ∷ Order LeSuc ∷ Path DoubleSuc ∷ Number NumInduction ∷ []) nothing le_double) (fact_sequent (Path LeDouble)) ≡ true
+le_double_agrees : agree (table_sequent (base 42) (facts.double_zero ∷ facts.le_reflexive ∷ facts.le_suc_suc ∷ facts.le_suc ∷ facts.double_suc ∷ facts.num_induction ∷ []) nothing le_double) (fact_sequent facts.le_double) ≡ true
 unfolding library_table
 le_double_agrees = refl
 
-pub le_double_proves : Proves (base 42) (Path DoubleZero ∷ Order LeReflexive ∷ Order LeSucSuc ∷ Order LeSuc ∷ Path DoubleSuc ∷ Number NumInduction ∷ []) le_double (Path LeDouble)
+pub le_double_proves : Proves (base 42) (facts.double_zero ∷ facts.le_reflexive ∷ facts.le_suc_suc ∷ facts.le_suc ∷ facts.double_suc ∷ facts.num_induction ∷ []) le_double facts.le_double
 le_double_proves = proves le_double_agrees
 
 abbrev below_double : Text
 below_double = codes "term 0\nrefl 0\nterm num.le (suc 0) (num.dbl 0)\ndisj_l 4 1\nterm [n:num]\nspec 2 0\nterm num.dbl [n:num]\nspec 3 6\nspec 2 1\nmp 7 8\nterm suc [n:num]\nspec 4 0\nterm suc (num.dbl [n:num])\nspec 5 10\nmp 11 9\nspec 2 2\nsym 13\nterm [v:num]\nterm num.le (suc (suc [n:num])) [v:num]\nsubst 6 7 14 12\nterm suc [n:num] = 0\ndisj_r 8 15\nterm \\x0:num. (x0 = 0) \\/ num.le (suc x0) (num.dbl x0)\nspec 9 3\nnorm 17\nterm ([n:num] = 0) \\/ num.le (suc [n:num]) (num.dbl [n:num])\ndisch 10 16\ngen 2 19\nmp 18 5\nmp 21 20\n"
 
-below_double_agrees : agree (table_sequent (base 42) (Order LeSucSuc ∷ Path LeDouble ∷ Path DoubleSuc ∷ Number NumInduction ∷ []) nothing below_double) (fact_sequent (Path BelowDouble)) ≡ true
+below_double_agrees : agree (table_sequent (base 42) (facts.le_suc_suc ∷ facts.le_double ∷ facts.double_suc ∷ facts.num_induction ∷ []) nothing below_double) (fact_sequent facts.below_double) ≡ true
 unfolding library_table
 below_double_agrees = refl
 
-pub below_double_proves : Proves (base 42) (Order LeSucSuc ∷ Path LeDouble ∷ Path DoubleSuc ∷ Number NumInduction ∷ []) below_double (Path BelowDouble)
+pub below_double_proves : Proves (base 42) (facts.le_suc_suc ∷ facts.le_double ∷ facts.double_suc ∷ facts.num_induction ∷ []) below_double facts.below_double
 below_double_proves = proves below_double_agrees
 
 abbrev even_or_odd : Text
 even_or_odd = codes "sym 0\nterm 0 = suc (num.dbl 0)\ndisj_l 3 0\nterm ?x0:num. (0 = num.dbl x0) \\/ (0 = suc (num.dbl x0))\nterm 0\nex_i 1 2 4\nterm [n:num] = num.dbl [m:num]\nassume 3\nterm suc\nrefl 4\ncomb 7 6\nterm suc [n:num] = num.dbl [m:num]\ndisj_r 5 8\nterm ?x0:num. (suc [n:num] = num.dbl x0) \\/ (suc [n:num] = suc (num.dbl x0))\nterm [m:num]\nex_i 6 7 9\nterm [n:num] = suc (num.dbl [m:num])\nassume 8\ncomb 7 11\nspec 7 1\nsym 13\ntrans 12 14\nterm suc [n:num] = suc (num.dbl (suc [m:num]))\ndisj_l 15 9\nterm suc [m:num]\nex_i 6 10 16\nterm ([n:num] = num.dbl [m:num]) \\/ ([n:num] = suc (num.dbl [m:num]))\nassume 11\ndisj_e 18 10 17\nterm ?x0:num. ([n:num] = num.dbl x0) \\/ ([n:num] = suc (num.dbl x0))\nassume 12\nchoose 7 20 19\nterm \\x0:num. ?x1:num. (x0 = num.dbl x1) \\/ (x0 = suc (num.dbl x1))\nspec 13 2\nnorm 22\ndisch 12 21\nterm [n:num]\ngen 14 24\nmp 23 5\nmp 26 25\n"
 
-even_or_odd_agrees : agree (table_sequent (base 42) (Path DoubleZero ∷ Path DoubleSuc ∷ Number NumInduction ∷ []) nothing even_or_odd) (fact_sequent (Path EvenOrOdd)) ≡ true
+even_or_odd_agrees : agree (table_sequent (base 42) (facts.double_zero ∷ facts.double_suc ∷ facts.num_induction ∷ []) nothing even_or_odd) (fact_sequent facts.even_or_odd) ≡ true
 unfolding library_table
 even_or_odd_agrees = refl
 
-pub even_or_odd_proves : Proves (base 42) (Path DoubleZero ∷ Path DoubleSuc ∷ Number NumInduction ∷ []) even_or_odd (Path EvenOrOdd)
+pub even_or_odd_proves : Proves (base 42) (facts.double_zero ∷ facts.double_suc ∷ facts.num_induction ∷ []) even_or_odd facts.even_or_odd
 even_or_odd_proves = proves even_or_odd_agrees
 
 pub constant_42 : IsConstantAt 42
@@ -114,109 +111,109 @@ constant_42 = constant_at refl
 abbrev cons_zero : Text
 cons_zero = codes "type num\ninst_type 0 a 0\nterm suc (num.dbl [p:num])\nspec 0 1\nterm \\x0:num. \\x1:num. num.dbl x1\nspec 1 2\ndef 42\nterm num.cons 0 [p:num]\nrewrite_all 2 4\nnorm 5\ntrans 6 3\nterm [p:num]\ngen 3 7\n"
 
-cons_zero_agrees : agree (table_sequent (base 43) (Number RecZero ∷ []) nothing cons_zero) (fact_sequent (Path ConsZero)) ≡ true
+cons_zero_agrees : agree (table_sequent (base 43) (facts.rec_zero ∷ []) nothing cons_zero) (fact_sequent facts.cons_zero) ≡ true
 unfolding library_table
 cons_zero_agrees = refl
 
-pub cons_zero_proves : Proves (base 43) (Number RecZero ∷ []) cons_zero (Path ConsZero)
+pub cons_zero_proves : Proves (base 43) (facts.rec_zero ∷ []) cons_zero facts.cons_zero
 cons_zero_proves = proves cons_zero_agrees
 
 abbrev cons_suc : Text
 cons_suc = codes "type num\ninst_type 0 a 0\nterm suc (num.dbl [p:num])\nspec 0 1\nterm \\x0:num. \\x1:num. num.dbl x1\nspec 1 2\nterm [i:num]\nspec 2 3\nnorm 4\ndef 42\nterm num.cons (suc [i:num]) [p:num] = num.dbl (num.cons [i:num] [p:num])\nrewrite_all 3 6\nnorm 7\nsym 8\neq_mp 9 5\nterm [p:num]\ngen 4 10\ngen 2 11\n"
 
-cons_suc_agrees : agree (table_sequent (base 43) (Number RecSuc ∷ []) nothing cons_suc) (fact_sequent (Path ConsSuc)) ≡ true
+cons_suc_agrees : agree (table_sequent (base 43) (facts.rec_suc ∷ []) nothing cons_suc) (fact_sequent facts.cons_suc) ≡ true
 unfolding library_table
 cons_suc_agrees = refl
 
-pub cons_suc_proves : Proves (base 43) (Number RecSuc ∷ []) cons_suc (Path ConsSuc)
+pub cons_suc_proves : Proves (base 43) (facts.rec_suc ∷ []) cons_suc facts.cons_suc
 cons_suc_proves = proves cons_suc_agrees
 
 abbrev below_cons : Text
 below_cons = codes "term [p:num]\nspec 0 0\nterm num.dbl [p:num]\nspec 1 6\nspec 0 1\nmp 7 8\nspec 0 2\nsym 10\nterm [v:num]\nterm num.le (suc [p:num]) [v:num]\nsubst 2 3 11 9\ngen 0 12\nterm suc [p:num]\nspec 4 3\nterm num.cons [i:num] [p:num]\nspec 5 14\nterm num.dbl (num.cons [i:num] [p:num])\nspec 6 15\nterm !x0:num. num.le (suc x0) (num.cons [i:num] x0)\nassume 7\nspec 0 17\nspec 5 1\nmp 16 18\nmp 20 19\nterm [i:num]\nspec 8 4\nspec 0 22\nsym 23\nsubst 2 3 24 21\ngen 0 25\nterm \\x0:num. !x1:num. num.le (suc x1) (num.cons x0 x1)\nspec 9 5\nnorm 27\ndisch 7 26\ngen 8 29\nmp 28 13\nmp 31 30\n"
 
-below_cons_agrees : agree (table_sequent (base 43) (Order LeSucSuc ∷ Path LeDouble ∷ Path ConsZero ∷ Order LeTransitive ∷ Path ConsSuc ∷ Number NumInduction ∷ []) nothing below_cons) (fact_sequent (Path BelowCons)) ≡ true
+below_cons_agrees : agree (table_sequent (base 43) (facts.le_suc_suc ∷ facts.le_double ∷ facts.cons_zero ∷ facts.le_transitive ∷ facts.cons_suc ∷ facts.num_induction ∷ []) nothing below_cons) (fact_sequent facts.below_cons) ≡ true
 unfolding library_table
 below_cons_agrees = refl
 
-pub below_cons_proves : Proves (base 43) (Order LeSucSuc ∷ Path LeDouble ∷ Path ConsZero ∷ Order LeTransitive ∷ Path ConsSuc ∷ Number NumInduction ∷ []) below_cons (Path BelowCons)
+pub below_cons_proves : Proves (base 43) (facts.le_suc_suc ∷ facts.le_double ∷ facts.cons_zero ∷ facts.le_transitive ∷ facts.cons_suc ∷ facts.num_induction ∷ []) below_cons facts.below_cons
 below_cons_proves = proves below_cons_agrees
 
 abbrev cons_not_zero : Text
 cons_not_zero = codes "term num.cons [i:num] [p:num] = 0\nassume 0\nterm [i:num]\nspec 1 0\nterm [p:num]\nspec 2 3\nterm [v:num]\nterm num.le (suc [p:num]) [v:num]\nsubst 3 4 2 4\nspec 2 1\nnot_e 6\nmp 7 5\ndisch 0 8\nnot_i 9\ngen 2 10\ngen 1 11\n"
 
-cons_not_zero_agrees : agree (table_sequent (base 43) (Path BelowCons ∷ Order NoneBelowZero ∷ []) nothing cons_not_zero) (fact_sequent (Path ConsNotZero)) ≡ true
+cons_not_zero_agrees : agree (table_sequent (base 43) (facts.below_cons ∷ facts.none_below_zero ∷ []) nothing cons_not_zero) (fact_sequent facts.cons_not_zero) ≡ true
 unfolding library_table
 cons_not_zero_agrees = refl
 
-pub cons_not_zero_proves : Proves (base 43) (Path BelowCons ∷ Order NoneBelowZero ∷ []) cons_not_zero (Path ConsNotZero)
+pub cons_not_zero_proves : Proves (base 43) (facts.below_cons ∷ facts.none_below_zero ∷ []) cons_not_zero facts.cons_not_zero
 cons_not_zero_proves = proves cons_not_zero_agrees
 
 abbrev cons_step_zero : Text
 cons_step_zero = codes "term num.cons 0 [p:num] = num.cons 0 [q:num]\nassume 0\nterm [p:num]\nspec 1 0\nterm [q:num]\nspec 2 0\nterm [v:num]\nterm [v:num] = num.cons 0 [q:num]\nsubst 3 4 7 6\nterm suc (num.dbl [p:num]) = [v:num]\nsubst 3 5 8 9\nterm num.dbl [p:num]\nspec 6 1\nterm num.dbl [q:num]\nspec 7 11\nmp 12 10\nspec 1 2\nspec 2 14\nmp 15 13\nterm 0\nrefl 8\nconj_i 17 16\ndisch 0 18\ngen 2 19\ngen 1 20\nterm num.cons (suc [i:num]) [p:num] = num.cons 0 [q:num]\nassume 9\nterm [i:num]\nspec 10 3\nspec 1 23\nsubst 3 4 24 22\nterm num.dbl (num.cons [i:num] [p:num]) = [v:num]\nsubst 3 11 8 25\nterm num.cons [i:num] [p:num]\nspec 12 4\nspec 2 27\nnot_e 28\nmp 29 26\ndef 6\neq_mp 31 30\nterm (suc [i:num] = 0) /\\ ([p:num] = [q:num])\nspec 13 32\ndisch 9 33\ngen 2 34\ngen 1 35\nterm \\x0:num. !x1:num. !x2:num. (num.cons x0 x1 = num.cons 0 x2) ==> ((x0 = 0) /\\ (x1 = x2))\nspec 14 5\nnorm 37\nterm !x0:num. !x1:num. (num.cons [i:num] x0 = num.cons 0 x1) ==> (([i:num] = 0) /\\ (x0 = x1))\ndisch 15 36\ngen 10 39\nmp 38 21\nmp 41 40\n"
 
-cons_step_zero_agrees : agree (table_sequent (base 43) (Path ConsZero ∷ Number SucInjective ∷ Path DoubleInjective ∷ Path ConsSuc ∷ Path DoubleNotOdd ∷ Number NumInduction ∷ []) nothing cons_step_zero) (fact_sequent (Path ConsStepZero)) ≡ true
+cons_step_zero_agrees : agree (table_sequent (base 43) (facts.cons_zero ∷ facts.suc_injective ∷ facts.double_injective ∷ facts.cons_suc ∷ facts.double_not_odd ∷ facts.num_induction ∷ []) nothing cons_step_zero) (fact_sequent facts.cons_step_zero) ≡ true
 unfolding library_table
 cons_step_zero_agrees = refl
 
-pub cons_step_zero_proves : Proves (base 43) (Path ConsZero ∷ Number SucInjective ∷ Path DoubleInjective ∷ Path ConsSuc ∷ Path DoubleNotOdd ∷ Number NumInduction ∷ []) cons_step_zero (Path ConsStepZero)
+pub cons_step_zero_proves : Proves (base 43) (facts.cons_zero ∷ facts.suc_injective ∷ facts.double_injective ∷ facts.cons_suc ∷ facts.double_not_odd ∷ facts.num_induction ∷ []) cons_step_zero facts.cons_step_zero
 cons_step_zero_proves = proves cons_step_zero_agrees
 
 abbrev cons_zero_injective : Text
 cons_zero_injective = codes "term num.cons 0 [p:num] = num.cons [j:num] [q:num]\nassume 0\nterm [j:num]\nspec 1 0\nterm [q:num]\nspec 2 2\nterm [p:num]\nspec 3 3\nsym 1\nmp 4 5\nconj_l 6\nsym 7\nconj_r 6\nsym 9\nconj_i 8 10\ndisch 0 11\ngen 2 12\ngen 1 13\ngen 3 14\n"
 
-cons_zero_injective_agrees : agree (table_sequent (base 43) (Path ConsStepZero ∷ []) nothing cons_zero_injective) (fact_sequent (Path ConsZeroInjective)) ≡ true
+cons_zero_injective_agrees : agree (table_sequent (base 43) (facts.cons_step_zero ∷ []) nothing cons_zero_injective) (fact_sequent facts.cons_zero_injective) ≡ true
 unfolding library_table
 cons_zero_injective_agrees = refl
 
-pub cons_zero_injective_proves : Proves (base 43) (Path ConsStepZero ∷ []) cons_zero_injective (Path ConsZeroInjective)
+pub cons_zero_injective_proves : Proves (base 43) (facts.cons_step_zero ∷ []) cons_zero_injective facts.cons_zero_injective
 cons_zero_injective_proves = proves cons_zero_injective_agrees
 
 abbrev cons_injective : Text
 cons_injective = codes "term suc [i:num]\nspec 0 0\nterm [p:num]\nspec 1 5\nterm num.cons (suc [i:num]) [p:num] = num.cons (suc [j:num]) [q:num]\nassume 2\nterm [i:num]\nspec 3 1\nspec 1 8\nterm [j:num]\nspec 4 1\nterm [q:num]\nspec 5 10\nterm [v:num]\nterm [v:num] = num.cons (suc [j:num]) [q:num]\nsubst 6 7 9 7\nterm num.dbl (num.cons [i:num] [p:num]) = [v:num]\nsubst 6 8 11 12\nterm num.cons [i:num] [p:num]\nspec 9 2\nterm num.cons [j:num] [q:num]\nspec 10 14\nmp 15 13\nterm !x0:num. !x1:num. !x2:num. (num.cons [i:num] x0 = num.cons x1 x2) ==> (([i:num] = x1) /\\ (x0 = x2))\nassume 11\nspec 1 17\nspec 4 18\nspec 5 19\nmp 20 16\nconj_l 21\nterm suc\nrefl 12\ncomb 23 22\nconj_r 21\nconj_i 24 25\ndisch 2 26\ngen 5 27\nterm \\x0:num. !x1:num. (num.cons (suc [i:num]) [p:num] = num.cons x0 x1) ==> ((suc [i:num] = x0) /\\ ([p:num] = x1))\nspec 13 3\nnorm 29\nterm !x0:num. (num.cons (suc [i:num]) [p:num] = num.cons [j:num] x0) ==> ((suc [i:num] = [j:num]) /\\ ([p:num] = x0))\ndisch 14 28\ngen 4 31\nmp 30 6\nmp 33 32\ngen 1 34\nterm \\x0:num. !x1:num. !x2:num. !x3:num. (num.cons x0 x1 = num.cons x2 x3) ==> ((x0 = x2) /\\ (x1 = x3))\nspec 15 3\nnorm 36\ndisch 11 35\ngen 3 38\nmp 37 4\nmp 40 39\n"
 
-cons_injective_agrees : agree (table_sequent (base 43) (Path ConsStepZero ∷ Path ConsSuc ∷ Path DoubleInjective ∷ Number NumInduction ∷ Path ConsZeroInjective ∷ []) nothing cons_injective) (fact_sequent (Path ConsInjective)) ≡ true
+cons_injective_agrees : agree (table_sequent (base 43) (facts.cons_step_zero ∷ facts.cons_suc ∷ facts.double_injective ∷ facts.num_induction ∷ facts.cons_zero_injective ∷ []) nothing cons_injective) (fact_sequent facts.cons_injective) ≡ true
 unfolding library_table
 cons_injective_agrees = refl
 
-pub cons_injective_proves : Proves (base 43) (Path ConsStepZero ∷ Path ConsSuc ∷ Path DoubleInjective ∷ Number NumInduction ∷ Path ConsZeroInjective ∷ []) cons_injective (Path ConsInjective)
+pub cons_injective_proves : Proves (base 43) (facts.cons_step_zero ∷ facts.cons_suc ∷ facts.double_injective ∷ facts.num_induction ∷ facts.cons_zero_injective ∷ []) cons_injective facts.cons_injective
 cons_injective_proves = proves cons_injective_agrees
 
 abbrev double_is_code : Text
 double_is_code = codes "term [n:num] = num.cons [i:num] [p:num]\nassume 0\nterm num.dbl\nrefl 1\ncomb 2 1\nterm [i:num]\nspec 2 0\nterm [p:num]\nspec 3 4\nsym 5\ntrans 3 6\nterm ?x0:num. num.dbl [n:num] = num.cons (suc [i:num]) x0\nex_i 4 3 7\nterm ?x0:num. ?x1:num. num.dbl [n:num] = num.cons x0 x1\nterm suc [i:num]\nex_i 5 6 8\nterm ?x0:num. [n:num] = num.cons [i:num] x0\nassume 7\nchoose 3 10 9\nterm ?x0:num. ?x1:num. [n:num] = num.cons x0 x1\nassume 8\nchoose 2 12 11\ndisch 8 13\nterm [n:num]\ngen 9 14\n"
 
-double_is_code_agrees : agree (table_sequent (base 43) (Path ConsSuc ∷ []) nothing double_is_code) (fact_sequent (Path DoubleIsCode)) ≡ true
+double_is_code_agrees : agree (table_sequent (base 43) (facts.cons_suc ∷ []) nothing double_is_code) (fact_sequent facts.double_is_code) ≡ true
 unfolding library_table
 double_is_code_agrees = refl
 
-pub double_is_code_proves : Proves (base 43) (Path ConsSuc ∷ []) double_is_code (Path DoubleIsCode)
+pub double_is_code_proves : Proves (base 43) (facts.cons_suc ∷ []) double_is_code facts.double_is_code
 double_is_code_proves = proves double_is_code_agrees
 
 abbrev path_cases : Text
 path_cases = codes "term \\x0:num. (x0 = 0) \\/ (?x1:num. ?x2:num. x0 = num.cons x1 x2)\nspec 0 0\nnorm 6\nterm !x0:num. num.le (suc x0) [n:num] ==> ((x0 = 0) \\/ (?x1:num. ?x2:num. x0 = num.cons x1 x2))\nassume 1\nterm [n:num] = num.dbl [m:num]\nassume 2\nterm [m:num] = 0\nassume 3\nterm [v:num]\nterm [n:num] = num.dbl [v:num]\nsubst 4 5 10 9\nterm [n:num] = [v:num]\nsubst 4 6 1 11\nterm ?x0:num. ?x1:num. [n:num] = num.cons x0 x1\ndisj_l 12 7\nterm [m:num]\nspec 8 2\nterm ?x0:num. ?x1:num. [m:num] = num.cons x0 x1\nassume 9\nmp 14 15\nsym 9\nterm ?x0:num. ?x1:num. [v:num] = num.cons x0 x1\nsubst 4 10 17 16\nterm [n:num] = 0\ndisj_r 11 18\nspec 8 8\nterm num.le (suc [m:num]) [v:num] ==> (([m:num] = 0) \\/ (?x0:num. ?x1:num. [m:num] = num.cons x0 x1))\nsubst 4 12 9 20\nterm num.le (suc [m:num]) (num.dbl [m:num])\nassume 13\nmp 21 22\nspec 8 3\ndisj_e 23 13 19\ndisj_e 24 13 25\nterm [n:num] = suc (num.dbl [m:num])\nassume 14\nspec 8 4\nsym 28\ntrans 27 29\nterm ?x0:num. [n:num] = num.cons 0 x0\nex_i 15 8 30\nterm 0\nex_i 7 16 31\nterm ([n:num] = num.dbl [m:num]) \\/ ([n:num] = suc (num.dbl [m:num]))\nassume 17\ndisj_r 11 32\ndisj_e 33 26 34\nterm [n:num]\nspec 18 5\nchoose 8 36 35\ndisch 1 37\ngen 18 38\nmp 7 39\n"
 
-path_cases_agrees : agree (table_sequent (base 43) (Order StrongInduction ∷ Path DoubleZero ∷ Path DoubleIsCode ∷ Path BelowDouble ∷ Path ConsZero ∷ Path EvenOrOdd ∷ []) nothing path_cases) (fact_sequent (Path PathCases)) ≡ true
+path_cases_agrees : agree (table_sequent (base 43) (facts.strong_induction ∷ facts.double_zero ∷ facts.double_is_code ∷ facts.below_double ∷ facts.cons_zero ∷ facts.even_or_odd ∷ []) nothing path_cases) (fact_sequent facts.path_cases) ≡ true
 unfolding library_table
 path_cases_agrees = refl
 
-pub path_cases_proves : Proves (base 43) (Order StrongInduction ∷ Path DoubleZero ∷ Path DoubleIsCode ∷ Path BelowDouble ∷ Path ConsZero ∷ Path EvenOrOdd ∷ []) path_cases (Path PathCases)
+pub path_cases_proves : Proves (base 43) (facts.strong_induction ∷ facts.double_zero ∷ facts.double_is_code ∷ facts.below_double ∷ facts.cons_zero ∷ facts.even_or_odd ∷ []) path_cases facts.path_cases
 path_cases_proves = proves path_cases_agrees
 
 abbrev path_induction : Text
 path_induction = codes "term [P:num -> bool] 0\nassume 0\nterm !x0:num. !x1:num. [P:num -> bool] x1 ==> [P:num -> bool] (num.cons x0 x1)\nassume 1\nterm !x0:num. num.le (suc x0) [n:num] ==> [P:num -> bool] x0\nassume 2\nterm [n:num] = 0\nassume 3\nsym 6\nterm [v:num]\nterm [P:num -> bool] [v:num]\nsubst 4 5 7 3\nterm [n:num] = num.cons [i:num] [p:num]\nassume 6\nterm [p:num]\nspec 7 5\nterm num.le (suc [p:num]) [v:num] ==> [P:num -> bool] [p:num]\nsubst 4 8 9 10\nterm [i:num]\nspec 9 0\nspec 7 12\nmp 11 13\nspec 9 4\nspec 7 15\nmp 16 14\nsym 9\nsubst 4 5 18 17\nterm ?x0:num. [n:num] = num.cons [i:num] x0\nassume 10\nchoose 7 20 19\nterm ?x0:num. ?x1:num. [n:num] = num.cons x0 x1\nassume 11\nchoose 9 22 21\nterm [n:num]\nspec 12 1\ndisj_e 24 8 23\nterm [P:num -> bool]\nspec 13 2\ndisch 2 25\ngen 12 27\nmp 26 28\ndisch 1 29\ndisch 0 30\ngen 13 31\n"
 
-path_induction_agrees : agree (table_sequent (base 43) (Path BelowCons ∷ Path PathCases ∷ Order StrongInduction ∷ []) nothing path_induction) (fact_sequent (Path PathInduction)) ≡ true
+path_induction_agrees : agree (table_sequent (base 43) (facts.below_cons ∷ facts.path_cases ∷ facts.strong_induction ∷ []) nothing path_induction) (fact_sequent facts.path_induction) ≡ true
 unfolding library_table
 path_induction_agrees = refl
 
-pub path_induction_proves : Proves (base 43) (Path BelowCons ∷ Path PathCases ∷ Order StrongInduction ∷ []) path_induction (Path PathInduction)
+pub path_induction_proves : Proves (base 43) (facts.below_cons ∷ facts.path_cases ∷ facts.strong_induction ∷ []) path_induction facts.path_induction
 path_induction_proves = proves path_induction_agrees
 
 abbrev path_recursion : Text
 path_recursion = codes "type num\ninst_type 0 b 0\nterm num.cons\nspec 0 4\nmp 5 1\nmp 6 2\nmp 7 3\n"
 
-path_recursion_agrees : agree (table_sequent (base 43) (Number Recursion ∷ Path ConsNotZero ∷ Path ConsInjective ∷ Path PathInduction ∷ []) nothing path_recursion) (fact_sequent (Path PathRecursion)) ≡ true
+path_recursion_agrees : agree (table_sequent (base 43) (facts.recursion ∷ facts.cons_not_zero ∷ facts.cons_injective ∷ facts.path_induction ∷ []) nothing path_recursion) (fact_sequent facts.path_recursion) ≡ true
 unfolding library_table
 path_recursion_agrees = refl
 
-pub path_recursion_proves : Proves (base 43) (Number Recursion ∷ Path ConsNotZero ∷ Path ConsInjective ∷ Path PathInduction ∷ []) path_recursion (Path PathRecursion)
+pub path_recursion_proves : Proves (base 43) (facts.recursion ∷ facts.cons_not_zero ∷ facts.cons_injective ∷ facts.path_induction ∷ []) path_recursion facts.path_recursion
 path_recursion_proves = proves path_recursion_agrees

@@ -2,18 +2,22 @@
 
 ghost use Rattle.std.specs.Prelude.{◌≡◌, OnOk};
 ghost use Rattle.hol_terms.specs.Base.{base};
+ghost use Rattle.nd_rules.specs.Kept.{HasRules};
 ghost use Rattle.script_core.specs.Shelves.{AreOn, ShelfHad};
 ghost use Rattle.library_steps.specs.Building.{Keeps, Extends};
-ghost use Rattle.library_facts.specs.Libraries.{base_facts, number_facts, path_facts};
+ghost use Rattle.th_base.specs.Facts.{base_facts};
+ghost use Rattle.th_num.specs.Facts.{number_facts, path_facts};
 
 use crate::tables::{numbers, paths};
 use hol_kernel::Kernel;
 use library_steps::take_steps;
+use nd_rules::Rules;
 use script_core::Shelf;
 use std::alloc::{AllocError, Global};
 
 /// Builds the part on numbers, recursion over them, and their order.
-fn build_numbers(alloc: Global, k: &mut Kernel, s: &mut Shelf) -> Result<(), AllocError>
+fn build_numbers(alloc: Global, k: &mut Kernel, rules: &Rules, s: &mut Shelf) -> Result<(), AllocError>
+    requires rules { HasRules k.old rules.now }
     requires defs { k.old.defs ≡ base 33 }
     requires base_facts { AreOn s.old base_facts }
     requires shelf { ShelfHad k.old s.old }
@@ -23,12 +27,13 @@ fn build_numbers(alloc: Global, k: &mut Kernel, s: &mut Shelf) -> Result<(), All
     ensures more { Extends s.old s.new }
     ensures keeps { Keeps k.old k.new }
 {
-    take_steps(alloc, k, s, &numbers::STEPS)?;
+    take_steps(alloc, k, rules, s, &numbers::STEPS)?;
     Ok(())
 }
 
 /// Builds the part on doubling and path codes.
-fn build_paths(alloc: Global, k: &mut Kernel, s: &mut Shelf) -> Result<(), AllocError>
+fn build_paths(alloc: Global, k: &mut Kernel, rules: &Rules, s: &mut Shelf) -> Result<(), AllocError>
+    requires rules { HasRules k.old rules.now }
     requires defs { k.old.defs ≡ base 41 }
     requires base_facts { AreOn s.old base_facts }
     requires number_facts { AreOn s.old number_facts }
@@ -39,7 +44,7 @@ fn build_paths(alloc: Global, k: &mut Kernel, s: &mut Shelf) -> Result<(), Alloc
     ensures more { Extends s.old s.new }
     ensures keeps { Keeps k.old k.new }
 {
-    take_steps(alloc, k, s, &paths::STEPS)?;
+    take_steps(alloc, k, rules, s, &paths::STEPS)?;
     Ok(())
 }
 
@@ -47,7 +52,8 @@ fn build_paths(alloc: Global, k: &mut Kernel, s: &mut Shelf) -> Result<(), Alloc
 /// those before them, and puts the facts on numbers, their order and path codes on the shelf, which has those of the first library.
 /// What was on the shelf still is, and the kernel has the theorem of each fact there. The one error is want of memory; the kernel
 /// and the shelf then still have what they had.
-pub fn build(alloc: Global, k: &mut Kernel, s: &mut Shelf) -> Result<(), AllocError>
+pub fn build(alloc: Global, k: &mut Kernel, rules: &Rules, s: &mut Shelf) -> Result<(), AllocError>
+    requires rules { HasRules k.old rules.now }
     requires defs { k.old.defs ≡ base 33 }
     requires base_facts { AreOn s.old base_facts }
     requires shelf { ShelfHad k.old s.old }
@@ -58,7 +64,7 @@ pub fn build(alloc: Global, k: &mut Kernel, s: &mut Shelf) -> Result<(), AllocEr
     ensures more { Extends s.old s.new }
     ensures keeps { Keeps k.old k.new }
 {
-    build_numbers(alloc, k, s)?;
-    build_paths(alloc, k, s)?;
+    build_numbers(alloc, k, rules, s)?;
+    build_paths(alloc, k, rules, s)?;
     Ok(())
 }

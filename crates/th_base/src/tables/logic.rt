@@ -2,7 +2,8 @@
 //! Logic, choice, the identity and the conditional: the proof tables, and the steps of the building. Each line of a table puts
 //! one type, term or theorem at the end of its register; the theorems begin with the facts that the table takes.
 
-use library_facts::{Fact, LogicFact};
+use crate::facts;
+use library_facts::Fact;
 use library_steps::Step;
 
 // The truth value T holds.
@@ -107,7 +108,7 @@ const CONTRADICTION: &str = "\
 ";
 
 // The facts that it takes.
-const CONTRADICTION_FACTS: &[Fact] = &[Fact::Logic(LogicFact::ExcludedMiddle)];
+const CONTRADICTION_FACTS: &[Fact] = &[facts::EXCLUDED_MIDDLE];
 
 // A truth value is its double negation.
 const DOUBLE_NEGATION: &str = "\
@@ -129,7 +130,7 @@ const DOUBLE_NEGATION: &str = "\
 ";
 
 // The facts that it takes.
-const DOUBLE_NEGATION_FACTS: &[Fact] = &[Fact::Logic(LogicFact::Contradiction)];
+const DOUBLE_NEGATION_FACTS: &[Fact] = &[facts::CONTRADICTION];
 
 // De Morgan: a disjunction fails where both of its sides do.
 const NOT_DISJ: &str = "\
@@ -197,10 +198,7 @@ const NOT_CONJ: &str = "\
 ";
 
 // The facts that it takes.
-const NOT_CONJ_FACTS: &[Fact] = &[
-    Fact::Logic(LogicFact::NotDisj),
-    Fact::Logic(LogicFact::DoubleNegation),
-];
+const NOT_CONJ_FACTS: &[Fact] = &[facts::NOT_DISJ, facts::DOUBLE_NEGATION];
 
 // An implication holds where its premise fails or its conclusion holds.
 const IMP_AS_DISJ: &str = "\
@@ -232,7 +230,7 @@ const IMP_AS_DISJ: &str = "\
 ";
 
 // The facts that it takes.
-const IMP_AS_DISJ_FACTS: &[Fact] = &[Fact::Logic(LogicFact::ExcludedMiddle)];
+const IMP_AS_DISJ_FACTS: &[Fact] = &[facts::EXCLUDED_MIDDLE];
 
 // An implication fails where its premise holds and its conclusion does not.
 const NOT_IMP: &str = "\
@@ -256,11 +254,7 @@ const NOT_IMP: &str = "\
 ";
 
 // The facts that it takes.
-const NOT_IMP_FACTS: &[Fact] = &[
-    Fact::Logic(LogicFact::ImpAsDisj),
-    Fact::Logic(LogicFact::NotDisj),
-    Fact::Logic(LogicFact::DoubleNegation),
-];
+const NOT_IMP_FACTS: &[Fact] = &[facts::IMP_AS_DISJ, facts::NOT_DISJ, facts::DOUBLE_NEGATION];
 
 // Where there is none, all are not.
 const NOT_EX: &str = "\
@@ -318,10 +312,7 @@ const NOT_ALL: &str = "\
 ";
 
 // The facts that it takes.
-const NOT_ALL_FACTS: &[Fact] = &[
-    Fact::Logic(LogicFact::NotEx),
-    Fact::Logic(LogicFact::DoubleNegation),
-];
+const NOT_ALL_FACTS: &[Fact] = &[facts::NOT_EX, facts::DOUBLE_NEGATION];
 
 // A negation says that the truth value is F.
 const NOT_AS_EQUATION: &str = "\
@@ -377,10 +368,7 @@ const FUNCTIONS_DIFFER: &str = "\
 ";
 
 // The facts that it takes.
-const FUNCTIONS_DIFFER_FACTS: &[Fact] = &[
-    Fact::Logic(LogicFact::Extensionality),
-    Fact::Logic(LogicFact::NotAll),
-];
+const FUNCTIONS_DIFFER_FACTS: &[Fact] = &[facts::EXTENSIONALITY, facts::NOT_ALL];
 
 // Of two different truth values one holds and the other does not.
 const TRUTH_VALUES_DIFFER: &str = "\
@@ -437,10 +425,7 @@ const TRUTH_VALUES_DIFFER: &str = "\
 ";
 
 // The facts that it takes.
-const TRUTH_VALUES_DIFFER_FACTS: &[Fact] = &[
-    Fact::Logic(LogicFact::NotConj),
-    Fact::Logic(LogicFact::NotImp),
-];
+const TRUTH_VALUES_DIFFER_FACTS: &[Fact] = &[facts::NOT_CONJ, facts::NOT_IMP];
 
 // Where there is one, the chosen one is.
 const SOME_HOLDS: &str = "\
@@ -487,7 +472,7 @@ const CHOICE: &str = "\
 ";
 
 // The facts that it takes.
-const CHOICE_FACTS: &[Fact] = &[Fact::Logic(LogicFact::SomeHolds)];
+const CHOICE_FACTS: &[Fact] = &[facts::SOME_HOLDS];
 
 // The same for the arguments of a set.
 const CHOICE_ON: &str = "\
@@ -520,7 +505,7 @@ const CHOICE_ON: &str = "\
 ";
 
 // The facts that it takes.
-const CHOICE_ON_FACTS: &[Fact] = &[Fact::Logic(LogicFact::SomeHolds)];
+const CHOICE_ON_FACTS: &[Fact] = &[facts::SOME_HOLDS];
 
 // The chosen one of a set with one element is that element.
 const UNIQUE_CHOICE: &str = "\
@@ -603,7 +588,7 @@ const IF_TRUE: &str = "\
 ";
 
 // The facts that it takes.
-const IF_TRUE_FACTS: &[Fact] = &[Fact::Logic(LogicFact::UniqueChoice)];
+const IF_TRUE_FACTS: &[Fact] = &[facts::UNIQUE_CHOICE];
 
 // A conditional gives its second value where its condition fails.
 const IF_FALSE: &str = "\
@@ -653,74 +638,51 @@ const IF_FALSE: &str = "\
 ";
 
 // The facts that it takes.
-const IF_FALSE_FACTS: &[Fact] = &[
-    Fact::Logic(LogicFact::UniqueChoice),
-    Fact::Logic(LogicFact::NotAsEquation),
-];
+const IF_FALSE_FACTS: &[Fact] = &[facts::UNIQUE_CHOICE, facts::NOT_AS_EQUATION];
 
 // The definitions and the facts, in order.
 pub(crate) static STEPS: [Step; 23] = [
-    Step::Prove(Fact::Logic(LogicFact::Truth), TRUTH_FACTS, TRUTH),
+    Step::Prove(facts::TRUTH, TRUTH_FACTS, TRUTH),
+    Step::Prove(facts::EXTENSIONALITY, EXTENSIONALITY_FACTS, EXTENSIONALITY),
     Step::Prove(
-        Fact::Logic(LogicFact::Extensionality),
-        EXTENSIONALITY_FACTS,
-        EXTENSIONALITY,
-    ),
-    Step::Prove(
-        Fact::Logic(LogicFact::ExcludedMiddle),
+        facts::EXCLUDED_MIDDLE,
         EXCLUDED_MIDDLE_FACTS,
         EXCLUDED_MIDDLE,
     ),
+    Step::Prove(facts::CONTRADICTION, CONTRADICTION_FACTS, CONTRADICTION),
     Step::Prove(
-        Fact::Logic(LogicFact::Contradiction),
-        CONTRADICTION_FACTS,
-        CONTRADICTION,
-    ),
-    Step::Prove(
-        Fact::Logic(LogicFact::DoubleNegation),
+        facts::DOUBLE_NEGATION,
         DOUBLE_NEGATION_FACTS,
         DOUBLE_NEGATION,
     ),
-    Step::Prove(Fact::Logic(LogicFact::NotDisj), NOT_DISJ_FACTS, NOT_DISJ),
-    Step::Prove(Fact::Logic(LogicFact::NotConj), NOT_CONJ_FACTS, NOT_CONJ),
+    Step::Prove(facts::NOT_DISJ, NOT_DISJ_FACTS, NOT_DISJ),
+    Step::Prove(facts::NOT_CONJ, NOT_CONJ_FACTS, NOT_CONJ),
+    Step::Prove(facts::IMP_AS_DISJ, IMP_AS_DISJ_FACTS, IMP_AS_DISJ),
+    Step::Prove(facts::NOT_IMP, NOT_IMP_FACTS, NOT_IMP),
+    Step::Prove(facts::NOT_EX, NOT_EX_FACTS, NOT_EX),
+    Step::Prove(facts::NOT_ALL, NOT_ALL_FACTS, NOT_ALL),
     Step::Prove(
-        Fact::Logic(LogicFact::ImpAsDisj),
-        IMP_AS_DISJ_FACTS,
-        IMP_AS_DISJ,
-    ),
-    Step::Prove(Fact::Logic(LogicFact::NotImp), NOT_IMP_FACTS, NOT_IMP),
-    Step::Prove(Fact::Logic(LogicFact::NotEx), NOT_EX_FACTS, NOT_EX),
-    Step::Prove(Fact::Logic(LogicFact::NotAll), NOT_ALL_FACTS, NOT_ALL),
-    Step::Prove(
-        Fact::Logic(LogicFact::NotAsEquation),
+        facts::NOT_AS_EQUATION,
         NOT_AS_EQUATION_FACTS,
         NOT_AS_EQUATION,
     ),
     Step::Prove(
-        Fact::Logic(LogicFact::FunctionsDiffer),
+        facts::FUNCTIONS_DIFFER,
         FUNCTIONS_DIFFER_FACTS,
         FUNCTIONS_DIFFER,
     ),
     Step::Prove(
-        Fact::Logic(LogicFact::TruthValuesDiffer),
+        facts::TRUTH_VALUES_DIFFER,
         TRUTH_VALUES_DIFFER_FACTS,
         TRUTH_VALUES_DIFFER,
     ),
-    Step::Prove(
-        Fact::Logic(LogicFact::SomeHolds),
-        SOME_HOLDS_FACTS,
-        SOME_HOLDS,
-    ),
-    Step::Prove(Fact::Logic(LogicFact::Choice), CHOICE_FACTS, CHOICE),
-    Step::Prove(Fact::Logic(LogicFact::ChoiceOn), CHOICE_ON_FACTS, CHOICE_ON),
-    Step::Prove(
-        Fact::Logic(LogicFact::UniqueChoice),
-        UNIQUE_CHOICE_FACTS,
-        UNIQUE_CHOICE,
-    ),
+    Step::Prove(facts::SOME_HOLDS, SOME_HOLDS_FACTS, SOME_HOLDS),
+    Step::Prove(facts::CHOICE, CHOICE_FACTS, CHOICE),
+    Step::Prove(facts::CHOICE_ON, CHOICE_ON_FACTS, CHOICE_ON),
+    Step::Prove(facts::UNIQUE_CHOICE, UNIQUE_CHOICE_FACTS, UNIQUE_CHOICE),
     Step::Constant(10),
-    Step::Prove(Fact::Logic(LogicFact::Identity), IDENTITY_FACTS, IDENTITY),
+    Step::Prove(facts::IDENTITY, IDENTITY_FACTS, IDENTITY),
     Step::Constant(11),
-    Step::Prove(Fact::Logic(LogicFact::IfTrue), IF_TRUE_FACTS, IF_TRUE),
-    Step::Prove(Fact::Logic(LogicFact::IfFalse), IF_FALSE_FACTS, IF_FALSE),
+    Step::Prove(facts::IF_TRUE, IF_TRUE_FACTS, IF_TRUE),
+    Step::Prove(facts::IF_FALSE, IF_FALSE_FACTS, IF_FALSE),
 ];

@@ -2,7 +2,8 @@
 //! Unit and products: the proof tables, and the steps of the building. Each line of a table puts
 //! one type, term or theorem at the end of its register; the theorems begin with the facts that the table takes.
 
-use library_facts::{Fact, LogicFact, ProductFact};
+use crate::facts;
+use library_facts::Fact;
 use library_steps::Step;
 
 // The truth value T represents an element of unit.
@@ -59,10 +60,7 @@ const UNIT_EQUAL: &str = "\
 ";
 
 // The facts that it takes.
-const UNIT_EQUAL_FACTS: &[Fact] = &[
-    Fact::Product(ProductFact::UnitAbsRep),
-    Fact::Product(ProductFact::UnitRepAbs),
-];
+const UNIT_EQUAL_FACTS: &[Fact] = &[facts::UNIT_ABS_REP, facts::UNIT_REP_ABS];
 
 // The graph of a pair represents an element of the product.
 const PROD_INHABITED: &str = "\
@@ -126,7 +124,7 @@ const PAIR_REP: &str = "\
 ";
 
 // The facts that it takes.
-const PAIR_REP_FACTS: &[Fact] = &[Fact::Product(ProductFact::ProdRepAbs)];
+const PAIR_REP_FACTS: &[Fact] = &[facts::PROD_REP_ABS];
 
 // Equal pairs have equal components.
 const PAIR_INJECTIVE: &str = "\
@@ -164,7 +162,7 @@ const PAIR_INJECTIVE: &str = "\
 ";
 
 // The facts that it takes.
-const PAIR_INJECTIVE_FACTS: &[Fact] = &[Fact::Product(ProductFact::PairRep)];
+const PAIR_INJECTIVE_FACTS: &[Fact] = &[facts::PAIR_REP];
 
 // Each element of a product is a pair.
 const PAIR_EXHAUSTS: &str = "\
@@ -204,10 +202,7 @@ const PAIR_EXHAUSTS: &str = "\
 ";
 
 // The facts that it takes.
-const PAIR_EXHAUSTS_FACTS: &[Fact] = &[
-    Fact::Product(ProductFact::ProdAbsRep),
-    Fact::Product(ProductFact::ProdRepAbs),
-];
+const PAIR_EXHAUSTS_FACTS: &[Fact] = &[facts::PROD_ABS_REP, facts::PROD_REP_ABS];
 
 // The first component of a pair.
 const FST_PAIR: &str = "\
@@ -249,10 +244,7 @@ const FST_PAIR: &str = "\
 ";
 
 // The facts that it takes.
-const FST_PAIR_FACTS: &[Fact] = &[
-    Fact::Logic(LogicFact::UniqueChoice),
-    Fact::Product(ProductFact::PairInjective),
-];
+const FST_PAIR_FACTS: &[Fact] = &[facts::UNIQUE_CHOICE, facts::PAIR_INJECTIVE];
 
 // The second component of a pair.
 const SND_PAIR: &str = "\
@@ -296,10 +288,7 @@ const SND_PAIR: &str = "\
 ";
 
 // The facts that it takes.
-const SND_PAIR_FACTS: &[Fact] = &[
-    Fact::Logic(LogicFact::UniqueChoice),
-    Fact::Product(ProductFact::PairInjective),
-];
+const SND_PAIR_FACTS: &[Fact] = &[facts::UNIQUE_CHOICE, facts::PAIR_INJECTIVE];
 
 // An element of a product is the pair of its components.
 const PAIR_OF_COMPONENTS: &str = "\
@@ -329,73 +318,29 @@ const PAIR_OF_COMPONENTS: &str = "\
 ";
 
 // The facts that it takes.
-const PAIR_OF_COMPONENTS_FACTS: &[Fact] = &[
-    Fact::Product(ProductFact::FstPair),
-    Fact::Product(ProductFact::SndPair),
-    Fact::Product(ProductFact::PairExhausts),
-];
+const PAIR_OF_COMPONENTS_FACTS: &[Fact] = &[facts::FST_PAIR, facts::SND_PAIR, facts::PAIR_EXHAUSTS];
 
 // The definitions and the facts, in order.
 pub(crate) static STEPS: [Step; 22] = [
     Step::NewType(12, UNIT_INHABITED),
-    Step::Prove(
-        Fact::Product(ProductFact::UnitAbsRep),
-        UNIT_ABS_REP_FACTS,
-        UNIT_ABS_REP,
-    ),
-    Step::Prove(
-        Fact::Product(ProductFact::UnitRepAbs),
-        UNIT_REP_ABS_FACTS,
-        UNIT_REP_ABS,
-    ),
-    Step::Prove(
-        Fact::Product(ProductFact::UnitEqual),
-        UNIT_EQUAL_FACTS,
-        UNIT_EQUAL,
-    ),
+    Step::Prove(facts::UNIT_ABS_REP, UNIT_ABS_REP_FACTS, UNIT_ABS_REP),
+    Step::Prove(facts::UNIT_REP_ABS, UNIT_REP_ABS_FACTS, UNIT_REP_ABS),
+    Step::Prove(facts::UNIT_EQUAL, UNIT_EQUAL_FACTS, UNIT_EQUAL),
     Step::Constant(13),
     Step::Constant(14),
     Step::NewType(15, PROD_INHABITED),
-    Step::Prove(
-        Fact::Product(ProductFact::ProdAbsRep),
-        PROD_ABS_REP_FACTS,
-        PROD_ABS_REP,
-    ),
-    Step::Prove(
-        Fact::Product(ProductFact::ProdRepAbs),
-        PROD_REP_ABS_FACTS,
-        PROD_REP_ABS,
-    ),
+    Step::Prove(facts::PROD_ABS_REP, PROD_ABS_REP_FACTS, PROD_ABS_REP),
+    Step::Prove(facts::PROD_REP_ABS, PROD_REP_ABS_FACTS, PROD_REP_ABS),
     Step::Constant(16),
     Step::Constant(17),
     Step::Constant(18),
+    Step::Prove(facts::PAIR_REP, PAIR_REP_FACTS, PAIR_REP),
+    Step::Prove(facts::PAIR_INJECTIVE, PAIR_INJECTIVE_FACTS, PAIR_INJECTIVE),
+    Step::Prove(facts::PAIR_EXHAUSTS, PAIR_EXHAUSTS_FACTS, PAIR_EXHAUSTS),
+    Step::Prove(facts::FST_PAIR, FST_PAIR_FACTS, FST_PAIR),
+    Step::Prove(facts::SND_PAIR, SND_PAIR_FACTS, SND_PAIR),
     Step::Prove(
-        Fact::Product(ProductFact::PairRep),
-        PAIR_REP_FACTS,
-        PAIR_REP,
-    ),
-    Step::Prove(
-        Fact::Product(ProductFact::PairInjective),
-        PAIR_INJECTIVE_FACTS,
-        PAIR_INJECTIVE,
-    ),
-    Step::Prove(
-        Fact::Product(ProductFact::PairExhausts),
-        PAIR_EXHAUSTS_FACTS,
-        PAIR_EXHAUSTS,
-    ),
-    Step::Prove(
-        Fact::Product(ProductFact::FstPair),
-        FST_PAIR_FACTS,
-        FST_PAIR,
-    ),
-    Step::Prove(
-        Fact::Product(ProductFact::SndPair),
-        SND_PAIR_FACTS,
-        SND_PAIR,
-    ),
-    Step::Prove(
-        Fact::Product(ProductFact::PairOfComponents),
+        facts::PAIR_OF_COMPONENTS,
         PAIR_OF_COMPONENTS_FACTS,
         PAIR_OF_COMPONENTS,
     ),

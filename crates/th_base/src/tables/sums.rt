@@ -2,7 +2,8 @@
 //! Sums: the proof tables, and the steps of the building. Each line of a table puts
 //! one type, term or theorem at the end of its register; the theorems begin with the facts that the table takes.
 
-use library_facts::{Fact, LogicFact, SumFact};
+use crate::facts;
+use library_facts::Fact;
 use library_steps::Step;
 
 // The relation of a left value represents an element of the sum.
@@ -64,7 +65,7 @@ const INL_REP: &str = "\
 ";
 
 // The facts that it takes.
-const INL_REP_FACTS: &[Fact] = &[Fact::Sum(SumFact::SumRepAbs)];
+const INL_REP_FACTS: &[Fact] = &[facts::SUM_REP_ABS];
 
 // How a right value is represented.
 const INR_REP: &str = "\
@@ -89,7 +90,7 @@ const INR_REP: &str = "\
 ";
 
 // The facts that it takes.
-const INR_REP_FACTS: &[Fact] = &[Fact::Sum(SumFact::SumRepAbs)];
+const INR_REP_FACTS: &[Fact] = &[facts::SUM_REP_ABS];
 
 // Equal left values have equal contents.
 const INL_INJECTIVE: &str = "\
@@ -126,7 +127,7 @@ const INL_INJECTIVE: &str = "\
 ";
 
 // The facts that it takes.
-const INL_INJECTIVE_FACTS: &[Fact] = &[Fact::Sum(SumFact::InlRep), Fact::Logic(LogicFact::Truth)];
+const INL_INJECTIVE_FACTS: &[Fact] = &[facts::INL_REP, facts::TRUTH];
 
 // Equal right values have equal contents.
 const INR_INJECTIVE: &str = "\
@@ -166,7 +167,7 @@ const INR_INJECTIVE: &str = "\
 ";
 
 // The facts that it takes.
-const INR_INJECTIVE_FACTS: &[Fact] = &[Fact::Sum(SumFact::InrRep)];
+const INR_INJECTIVE_FACTS: &[Fact] = &[facts::INR_REP];
 
 // A left value is no right value.
 const INL_NOT_INR: &str = "\
@@ -209,11 +210,7 @@ const INL_NOT_INR: &str = "\
 ";
 
 // The facts that it takes.
-const INL_NOT_INR_FACTS: &[Fact] = &[
-    Fact::Sum(SumFact::InlRep),
-    Fact::Sum(SumFact::InrRep),
-    Fact::Logic(LogicFact::Truth),
-];
+const INL_NOT_INR_FACTS: &[Fact] = &[facts::INL_REP, facts::INR_REP, facts::TRUTH];
 
 // A right value is no left value.
 const INR_NOT_INL: &str = "\
@@ -233,7 +230,7 @@ const INR_NOT_INL: &str = "\
 ";
 
 // The facts that it takes.
-const INR_NOT_INL_FACTS: &[Fact] = &[Fact::Sum(SumFact::InlNotInr)];
+const INR_NOT_INL_FACTS: &[Fact] = &[facts::INL_NOT_INR];
 
 // Each element of a sum is a left or a right value.
 const INL_OR_INR: &str = "\
@@ -288,7 +285,7 @@ const INL_OR_INR: &str = "\
 ";
 
 // The facts that it takes.
-const INL_OR_INR_FACTS: &[Fact] = &[Fact::Sum(SumFact::SumAbsRep), Fact::Sum(SumFact::SumRepAbs)];
+const INL_OR_INR_FACTS: &[Fact] = &[facts::SUM_ABS_REP, facts::SUM_REP_ABS];
 
 // Case analysis of a left value.
 const CASE_INL: &str = "\
@@ -356,11 +353,7 @@ const CASE_INL: &str = "\
 ";
 
 // The facts that it takes.
-const CASE_INL_FACTS: &[Fact] = &[
-    Fact::Logic(LogicFact::SomeHolds),
-    Fact::Sum(SumFact::InlInjective),
-    Fact::Sum(SumFact::InlNotInr),
-];
+const CASE_INL_FACTS: &[Fact] = &[facts::SOME_HOLDS, facts::INL_INJECTIVE, facts::INL_NOT_INR];
 
 // Case analysis of a right value.
 const CASE_INR: &str = "\
@@ -429,55 +422,27 @@ const CASE_INR: &str = "\
 ";
 
 // The facts that it takes.
-const CASE_INR_FACTS: &[Fact] = &[
-    Fact::Logic(LogicFact::SomeHolds),
-    Fact::Sum(SumFact::InrNotInl),
-    Fact::Sum(SumFact::InrInjective),
-];
+const CASE_INR_FACTS: &[Fact] = &[facts::SOME_HOLDS, facts::INR_NOT_INL, facts::INR_INJECTIVE];
 
 // The definitions and the facts, in order.
 pub(crate) static STEPS: [Step; 21] = [
     Step::Constant(23),
     Step::Constant(24),
     Step::NewType(25, SUM_INHABITED),
-    Step::Prove(
-        Fact::Sum(SumFact::SumAbsRep),
-        SUM_ABS_REP_FACTS,
-        SUM_ABS_REP,
-    ),
-    Step::Prove(
-        Fact::Sum(SumFact::SumRepAbs),
-        SUM_REP_ABS_FACTS,
-        SUM_REP_ABS,
-    ),
+    Step::Prove(facts::SUM_ABS_REP, SUM_ABS_REP_FACTS, SUM_ABS_REP),
+    Step::Prove(facts::SUM_REP_ABS, SUM_REP_ABS_FACTS, SUM_REP_ABS),
     Step::Constant(26),
     Step::Constant(27),
-    Step::Prove(Fact::Sum(SumFact::InlRep), INL_REP_FACTS, INL_REP),
-    Step::Prove(Fact::Sum(SumFact::InrRep), INR_REP_FACTS, INR_REP),
-    Step::Prove(
-        Fact::Sum(SumFact::InlInjective),
-        INL_INJECTIVE_FACTS,
-        INL_INJECTIVE,
-    ),
-    Step::Prove(
-        Fact::Sum(SumFact::InrInjective),
-        INR_INJECTIVE_FACTS,
-        INR_INJECTIVE,
-    ),
-    Step::Prove(
-        Fact::Sum(SumFact::InlNotInr),
-        INL_NOT_INR_FACTS,
-        INL_NOT_INR,
-    ),
-    Step::Prove(
-        Fact::Sum(SumFact::InrNotInl),
-        INR_NOT_INL_FACTS,
-        INR_NOT_INL,
-    ),
-    Step::Prove(Fact::Sum(SumFact::InlOrInr), INL_OR_INR_FACTS, INL_OR_INR),
+    Step::Prove(facts::INL_REP, INL_REP_FACTS, INL_REP),
+    Step::Prove(facts::INR_REP, INR_REP_FACTS, INR_REP),
+    Step::Prove(facts::INL_INJECTIVE, INL_INJECTIVE_FACTS, INL_INJECTIVE),
+    Step::Prove(facts::INR_INJECTIVE, INR_INJECTIVE_FACTS, INR_INJECTIVE),
+    Step::Prove(facts::INL_NOT_INR, INL_NOT_INR_FACTS, INL_NOT_INR),
+    Step::Prove(facts::INR_NOT_INL, INR_NOT_INL_FACTS, INR_NOT_INL),
+    Step::Prove(facts::INL_OR_INR, INL_OR_INR_FACTS, INL_OR_INR),
     Step::Constant(28),
-    Step::Prove(Fact::Sum(SumFact::CaseInl), CASE_INL_FACTS, CASE_INL),
-    Step::Prove(Fact::Sum(SumFact::CaseInr), CASE_INR_FACTS, CASE_INR),
+    Step::Prove(facts::CASE_INL, CASE_INL_FACTS, CASE_INL),
+    Step::Prove(facts::CASE_INR, CASE_INR_FACTS, CASE_INR),
     Step::Constant(29),
     Step::Constant(30),
     Step::Constant(31),

@@ -2,7 +2,8 @@
 //! Countable sets: the proof tables, and the steps of the building. Each line of a table puts
 //! one type, term or theorem at the end of its register; the theorems begin with the facts that the table takes.
 
-use library_facts::{CountableFact, Fact, LogicFact, NumberFact, PathFact, ProductFact, SumFact};
+use crate::facts;
+use library_facts::Fact;
 use library_steps::Step;
 
 // What the numbers enumerate is countable.
@@ -56,7 +57,7 @@ const COUNTABLE_ENUMERATED: &str = "\
 ";
 
 // The facts that it takes.
-const COUNTABLE_ENUMERATED_FACTS: &[Fact] = &[Fact::Logic(LogicFact::ChoiceOn)];
+const COUNTABLE_ENUMERATED_FACTS: &[Fact] = &[th_base::facts::CHOICE_ON];
 
 // There is a function that enumerates each countable set by numbers.
 const COUNTABLE_ENUMERATION: &str = "\
@@ -118,8 +119,8 @@ const COUNTABLE_ENUMERATION: &str = "\
 
 // The facts that it takes.
 const COUNTABLE_ENUMERATION_FACTS: &[Fact] = &[
-    Fact::Logic(LogicFact::SomeHolds),
-    Fact::Logic(LogicFact::ChoiceOn),
+    th_base::facts::SOME_HOLDS,
+    th_base::facts::CHOICE_ON,
 ];
 
 // A subset of a countable set is countable.
@@ -157,8 +158,8 @@ const COUNTABLE_SUBSET: &str = "\
 
 // The facts that it takes.
 const COUNTABLE_SUBSET_FACTS: &[Fact] = &[
-    Fact::Countable(CountableFact::CountableEnumerated),
-    Fact::Countable(CountableFact::CountableEnumeration),
+    facts::COUNTABLE_ENUMERATED,
+    facts::COUNTABLE_ENUMERATION,
 ];
 
 // Each set of elements of a countable type is countable.
@@ -181,10 +182,7 @@ const COUNTABLE_ON_TYPE: &str = "\
 ";
 
 // The facts that it takes.
-const COUNTABLE_ON_TYPE_FACTS: &[Fact] = &[
-    Fact::Countable(CountableFact::CountableSubset),
-    Fact::Logic(LogicFact::Truth),
-];
+const COUNTABLE_ON_TYPE_FACTS: &[Fact] = &[facts::COUNTABLE_SUBSET, th_base::facts::TRUTH];
 
 // The numbers are countable.
 const COUNTABLE_NUM: &str = "\
@@ -206,7 +204,7 @@ const COUNTABLE_NUM: &str = "\
 ";
 
 // The facts that it takes.
-const COUNTABLE_NUM_FACTS: &[Fact] = &[Fact::Countable(CountableFact::CountableEnumerated)];
+const COUNTABLE_NUM_FACTS: &[Fact] = &[facts::COUNTABLE_ENUMERATED];
 
 // The empty set is countable.
 const COUNTABLE_EMPTY: &str = "\
@@ -228,7 +226,7 @@ const COUNTABLE_EMPTY: &str = "\
 ";
 
 // The facts that it takes.
-const COUNTABLE_EMPTY_FACTS: &[Fact] = &[Fact::Countable(CountableFact::CountableEnumerated)];
+const COUNTABLE_EMPTY_FACTS: &[Fact] = &[facts::COUNTABLE_ENUMERATED];
 
 // A set of one element is countable.
 const COUNTABLE_SINGLETON: &str = "\
@@ -251,7 +249,7 @@ const COUNTABLE_SINGLETON: &str = "\
 ";
 
 // The facts that it takes.
-const COUNTABLE_SINGLETON_FACTS: &[Fact] = &[Fact::Countable(CountableFact::CountableEnumerated)];
+const COUNTABLE_SINGLETON_FACTS: &[Fact] = &[facts::COUNTABLE_ENUMERATED];
 
 // Unit is countable.
 const COUNTABLE_UNIT: &str = "\
@@ -271,10 +269,7 @@ const COUNTABLE_UNIT: &str = "\
 ";
 
 // The facts that it takes.
-const COUNTABLE_UNIT_FACTS: &[Fact] = &[
-    Fact::Product(ProductFact::UnitEqual),
-    Fact::Countable(CountableFact::CountableSingleton),
-];
+const COUNTABLE_UNIT_FACTS: &[Fact] = &[th_base::facts::UNIT_EQUAL, facts::COUNTABLE_SINGLETON];
 
 // The truth values are countable.
 const COUNTABLE_BOOL: &str = "\
@@ -315,10 +310,10 @@ const COUNTABLE_BOOL: &str = "\
 
 // The facts that it takes.
 const COUNTABLE_BOOL_FACTS: &[Fact] = &[
-    Fact::Logic(LogicFact::NotAsEquation),
-    Fact::Number(NumberFact::SucNotZero),
-    Fact::Logic(LogicFact::ExcludedMiddle),
-    Fact::Countable(CountableFact::CountableEnumerated),
+    th_base::facts::NOT_AS_EQUATION,
+    th_num::facts::SUC_NOT_ZERO,
+    th_base::facts::EXCLUDED_MIDDLE,
+    facts::COUNTABLE_ENUMERATED,
 ];
 
 // What the pairs of numbers enumerate is countable.
@@ -369,8 +364,8 @@ const COUNTABLE_ENUMERATED_TWICE: &str = "\
 
 // The facts that it takes.
 const COUNTABLE_ENUMERATED_TWICE_FACTS: &[Fact] = &[
-    Fact::Path(PathFact::PathRecursion),
-    Fact::Countable(CountableFact::CountableEnumerated),
+    th_num::facts::PATH_RECURSION,
+    facts::COUNTABLE_ENUMERATED,
 ];
 
 // The union of countably many countable sets is countable.
@@ -437,8 +432,8 @@ const COUNTABLE_UNION: &str = "\
 
 // The facts that it takes.
 const COUNTABLE_UNION_FACTS: &[Fact] = &[
-    Fact::Countable(CountableFact::CountableEnumeratedTwice),
-    Fact::Countable(CountableFact::CountableEnumeration),
+    facts::COUNTABLE_ENUMERATED_TWICE,
+    facts::COUNTABLE_ENUMERATION,
 ];
 
 // The union of two countable sets is countable.
@@ -504,9 +499,9 @@ const COUNTABLE_UNION_OF_TWO: &str = "\
 
 // The facts that it takes.
 const COUNTABLE_UNION_OF_TWO_FACTS: &[Fact] = &[
-    Fact::Number(NumberFact::NumRecursion),
-    Fact::Countable(CountableFact::CountableEnumeratedTwice),
-    Fact::Countable(CountableFact::CountableEnumeration),
+    th_num::facts::NUM_RECURSION,
+    facts::COUNTABLE_ENUMERATED_TWICE,
+    facts::COUNTABLE_ENUMERATION,
 ];
 
 // The image of a countable set is countable.
@@ -535,10 +530,7 @@ const COUNTABLE_IMAGE: &str = "\
 ";
 
 // The facts that it takes.
-const COUNTABLE_IMAGE_FACTS: &[Fact] = &[
-    Fact::Countable(CountableFact::CountableUnion),
-    Fact::Countable(CountableFact::CountableSingleton),
-];
+const COUNTABLE_IMAGE_FACTS: &[Fact] = &[facts::COUNTABLE_UNION, facts::COUNTABLE_SINGLETON];
 
 // The values of a function on a countable type are countable.
 const COUNTABLE_RANGE: &str = "\
@@ -577,9 +569,9 @@ const COUNTABLE_RANGE: &str = "\
 
 // The facts that it takes.
 const COUNTABLE_RANGE_FACTS: &[Fact] = &[
-    Fact::Countable(CountableFact::CountableImage),
-    Fact::Logic(LogicFact::Truth),
-    Fact::Countable(CountableFact::CountableSubset),
+    facts::COUNTABLE_IMAGE,
+    th_base::facts::TRUTH,
+    facts::COUNTABLE_SUBSET,
 ];
 
 // What is mapped injectively into a countable set is countable.
@@ -645,9 +637,9 @@ const COUNTABLE_INJECTION: &str = "\
 
 // The facts that it takes.
 const COUNTABLE_INJECTION_FACTS: &[Fact] = &[
-    Fact::Logic(LogicFact::SomeHolds),
-    Fact::Countable(CountableFact::CountableImage),
-    Fact::Countable(CountableFact::CountableSubset),
+    th_base::facts::SOME_HOLDS,
+    facts::COUNTABLE_IMAGE,
+    facts::COUNTABLE_SUBSET,
 ];
 
 // The pairs from two countable sets are countable.
@@ -709,10 +701,10 @@ const COUNTABLE_PRODUCT: &str = "\
 
 // The facts that it takes.
 const COUNTABLE_PRODUCT_FACTS: &[Fact] = &[
-    Fact::Countable(CountableFact::CountableUnion),
-    Fact::Countable(CountableFact::CountableImage),
-    Fact::Product(ProductFact::PairOfComponents),
-    Fact::Countable(CountableFact::CountableSubset),
+    facts::COUNTABLE_UNION,
+    facts::COUNTABLE_IMAGE,
+    th_base::facts::PAIR_OF_COMPONENTS,
+    facts::COUNTABLE_SUBSET,
 ];
 
 // The product of countable types is countable.
@@ -738,10 +730,7 @@ const COUNTABLE_PROD: &str = "\
 ";
 
 // The facts that it takes.
-const COUNTABLE_PROD_FACTS: &[Fact] = &[
-    Fact::Countable(CountableFact::CountableProduct),
-    Fact::Logic(LogicFact::Truth),
-];
+const COUNTABLE_PROD_FACTS: &[Fact] = &[facts::COUNTABLE_PRODUCT, th_base::facts::TRUTH];
 
 // The sum of countable types is countable.
 const COUNTABLE_SUM: &str = "\
@@ -781,102 +770,82 @@ const COUNTABLE_SUM: &str = "\
 
 // The facts that it takes.
 const COUNTABLE_SUM_FACTS: &[Fact] = &[
-    Fact::Countable(CountableFact::CountableRange),
-    Fact::Countable(CountableFact::CountableUnionOfTwo),
-    Fact::Sum(SumFact::InlOrInr),
+    facts::COUNTABLE_RANGE,
+    facts::COUNTABLE_UNION_OF_TWO,
+    th_base::facts::INL_OR_INR,
 ];
 
 // The definitions and the facts, in order.
 pub(crate) static STEPS: [Step; 19] = [
     Step::Constant(43),
     Step::Prove(
-        Fact::Countable(CountableFact::CountableEnumerated),
+        facts::COUNTABLE_ENUMERATED,
         COUNTABLE_ENUMERATED_FACTS,
         COUNTABLE_ENUMERATED,
     ),
     Step::Prove(
-        Fact::Countable(CountableFact::CountableEnumeration),
+        facts::COUNTABLE_ENUMERATION,
         COUNTABLE_ENUMERATION_FACTS,
         COUNTABLE_ENUMERATION,
     ),
     Step::Prove(
-        Fact::Countable(CountableFact::CountableSubset),
+        facts::COUNTABLE_SUBSET,
         COUNTABLE_SUBSET_FACTS,
         COUNTABLE_SUBSET,
     ),
     Step::Prove(
-        Fact::Countable(CountableFact::CountableOnType),
+        facts::COUNTABLE_ON_TYPE,
         COUNTABLE_ON_TYPE_FACTS,
         COUNTABLE_ON_TYPE,
     ),
+    Step::Prove(facts::COUNTABLE_NUM, COUNTABLE_NUM_FACTS, COUNTABLE_NUM),
     Step::Prove(
-        Fact::Countable(CountableFact::CountableNum),
-        COUNTABLE_NUM_FACTS,
-        COUNTABLE_NUM,
-    ),
-    Step::Prove(
-        Fact::Countable(CountableFact::CountableEmpty),
+        facts::COUNTABLE_EMPTY,
         COUNTABLE_EMPTY_FACTS,
         COUNTABLE_EMPTY,
     ),
     Step::Prove(
-        Fact::Countable(CountableFact::CountableSingleton),
+        facts::COUNTABLE_SINGLETON,
         COUNTABLE_SINGLETON_FACTS,
         COUNTABLE_SINGLETON,
     ),
+    Step::Prove(facts::COUNTABLE_UNIT, COUNTABLE_UNIT_FACTS, COUNTABLE_UNIT),
+    Step::Prove(facts::COUNTABLE_BOOL, COUNTABLE_BOOL_FACTS, COUNTABLE_BOOL),
     Step::Prove(
-        Fact::Countable(CountableFact::CountableUnit),
-        COUNTABLE_UNIT_FACTS,
-        COUNTABLE_UNIT,
-    ),
-    Step::Prove(
-        Fact::Countable(CountableFact::CountableBool),
-        COUNTABLE_BOOL_FACTS,
-        COUNTABLE_BOOL,
-    ),
-    Step::Prove(
-        Fact::Countable(CountableFact::CountableEnumeratedTwice),
+        facts::COUNTABLE_ENUMERATED_TWICE,
         COUNTABLE_ENUMERATED_TWICE_FACTS,
         COUNTABLE_ENUMERATED_TWICE,
     ),
     Step::Prove(
-        Fact::Countable(CountableFact::CountableUnion),
+        facts::COUNTABLE_UNION,
         COUNTABLE_UNION_FACTS,
         COUNTABLE_UNION,
     ),
     Step::Prove(
-        Fact::Countable(CountableFact::CountableUnionOfTwo),
+        facts::COUNTABLE_UNION_OF_TWO,
         COUNTABLE_UNION_OF_TWO_FACTS,
         COUNTABLE_UNION_OF_TWO,
     ),
     Step::Prove(
-        Fact::Countable(CountableFact::CountableImage),
+        facts::COUNTABLE_IMAGE,
         COUNTABLE_IMAGE_FACTS,
         COUNTABLE_IMAGE,
     ),
     Step::Prove(
-        Fact::Countable(CountableFact::CountableRange),
+        facts::COUNTABLE_RANGE,
         COUNTABLE_RANGE_FACTS,
         COUNTABLE_RANGE,
     ),
     Step::Prove(
-        Fact::Countable(CountableFact::CountableInjection),
+        facts::COUNTABLE_INJECTION,
         COUNTABLE_INJECTION_FACTS,
         COUNTABLE_INJECTION,
     ),
     Step::Prove(
-        Fact::Countable(CountableFact::CountableProduct),
+        facts::COUNTABLE_PRODUCT,
         COUNTABLE_PRODUCT_FACTS,
         COUNTABLE_PRODUCT,
     ),
-    Step::Prove(
-        Fact::Countable(CountableFact::CountableProd),
-        COUNTABLE_PROD_FACTS,
-        COUNTABLE_PROD,
-    ),
-    Step::Prove(
-        Fact::Countable(CountableFact::CountableSum),
-        COUNTABLE_SUM_FACTS,
-        COUNTABLE_SUM,
-    ),
+    Step::Prove(facts::COUNTABLE_PROD, COUNTABLE_PROD_FACTS, COUNTABLE_PROD),
+    Step::Prove(facts::COUNTABLE_SUM, COUNTABLE_SUM_FACTS, COUNTABLE_SUM),
 ];

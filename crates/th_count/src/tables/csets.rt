@@ -2,7 +2,8 @@
 //! The type of countable sets: the proof tables, and the steps of the building. Each line of a table puts
 //! one type, term or theorem at the end of its register; the theorems begin with the facts that the table takes.
 
-use library_facts::{CountableFact, CsetFact, Fact, LogicFact, ProductFact};
+use crate::facts;
+use library_facts::Fact;
 use library_steps::Step;
 
 // The empty set represents a countable set.
@@ -64,10 +65,7 @@ const CSET_COUNTABLE: &str = "\
 ";
 
 // The facts that it takes.
-const CSET_COUNTABLE_FACTS: &[Fact] = &[
-    Fact::Cset(CsetFact::CsetAbsRep),
-    Fact::Cset(CsetFact::CsetRepAbs),
-];
+const CSET_COUNTABLE_FACTS: &[Fact] = &[facts::CSET_ABS_REP, facts::CSET_REP_ABS];
 
 // Countable sets with the same members are equal.
 const CSET_EXTENSIONALITY: &str = "\
@@ -96,10 +94,7 @@ const CSET_EXTENSIONALITY: &str = "\
 ";
 
 // The facts that it takes.
-const CSET_EXTENSIONALITY_FACTS: &[Fact] = &[
-    Fact::Logic(LogicFact::Extensionality),
-    Fact::Cset(CsetFact::CsetAbsRep),
-];
+const CSET_EXTENSIONALITY_FACTS: &[Fact] = &[th_base::facts::EXTENSIONALITY, facts::CSET_ABS_REP];
 
 // The set of a countable predicate has the members of the predicate.
 const CSET_MEMBER: &str = "\
@@ -117,7 +112,7 @@ const CSET_MEMBER: &str = "\
 ";
 
 // The facts that it takes.
-const CSET_MEMBER_FACTS: &[Fact] = &[Fact::Cset(CsetFact::CsetRepAbs)];
+const CSET_MEMBER_FACTS: &[Fact] = &[facts::CSET_REP_ABS];
 
 // The members of an image.
 const CSET_MAP_MEMBER: &str = "\
@@ -151,9 +146,9 @@ const CSET_MAP_MEMBER: &str = "\
 
 // The facts that it takes.
 const CSET_MAP_MEMBER_FACTS: &[Fact] = &[
-    Fact::Countable(CountableFact::CountableImage),
-    Fact::Cset(CsetFact::CsetCountable),
-    Fact::Cset(CsetFact::CsetMember),
+    facts::COUNTABLE_IMAGE,
+    facts::CSET_COUNTABLE,
+    facts::CSET_MEMBER,
 ];
 
 // The image is the countable set of the values.
@@ -183,10 +178,7 @@ const CSET_MAP_IS: &str = "\
 ";
 
 // The facts that it takes.
-const CSET_MAP_IS_FACTS: &[Fact] = &[
-    Fact::Cset(CsetFact::CsetMapMember),
-    Fact::Cset(CsetFact::CsetExtensionality),
-];
+const CSET_MAP_IS_FACTS: &[Fact] = &[facts::CSET_MAP_MEMBER, facts::CSET_EXTENSIONALITY];
 
 // There is one of a kind in an image where there is one in the set whose value is of the kind.
 const CSET_MAP_EXISTS: &str = "\
@@ -240,7 +232,7 @@ const CSET_MAP_EXISTS: &str = "\
 ";
 
 // The facts that it takes.
-const CSET_MAP_EXISTS_FACTS: &[Fact] = &[Fact::Cset(CsetFact::CsetMapMember)];
+const CSET_MAP_EXISTS_FACTS: &[Fact] = &[facts::CSET_MAP_MEMBER];
 
 // Functor law map_id of cset.
 const CSET_MAP_ID: &str = "\
@@ -279,10 +271,7 @@ const CSET_MAP_ID: &str = "\
 ";
 
 // The facts that it takes.
-const CSET_MAP_ID_FACTS: &[Fact] = &[
-    Fact::Logic(LogicFact::Identity),
-    Fact::Cset(CsetFact::CsetMapIs),
-];
+const CSET_MAP_ID_FACTS: &[Fact] = &[th_base::facts::IDENTITY, facts::CSET_MAP_IS];
 
 // Functor law map_comp of cset.
 const CSET_MAP_COMP: &str = "\
@@ -320,9 +309,9 @@ const CSET_MAP_COMP: &str = "\
 
 // The facts that it takes.
 const CSET_MAP_COMP_FACTS: &[Fact] = &[
-    Fact::Cset(CsetFact::CsetMapExists),
-    Fact::Cset(CsetFact::CsetMapMember),
-    Fact::Cset(CsetFact::CsetMapIs),
+    facts::CSET_MAP_EXISTS,
+    facts::CSET_MAP_MEMBER,
+    facts::CSET_MAP_IS,
 ];
 
 // The set function is the representation.
@@ -365,10 +354,7 @@ const CSET_SET_MAP: &str = "\
 ";
 
 // The facts that it takes.
-const CSET_SET_MAP_FACTS: &[Fact] = &[
-    Fact::Cset(CsetFact::CsetSetIsRep),
-    Fact::Cset(CsetFact::CsetMapMember),
-];
+const CSET_SET_MAP_FACTS: &[Fact] = &[facts::CSET_SET_IS_REP, facts::CSET_MAP_MEMBER];
 
 // Functor law set1_count of cset.
 const CSET_SET_COUNT: &str = "\
@@ -379,10 +365,7 @@ const CSET_SET_COUNT: &str = "\
 ";
 
 // The facts that it takes.
-const CSET_SET_COUNT_FACTS: &[Fact] = &[
-    Fact::Cset(CsetFact::CsetCountable),
-    Fact::Cset(CsetFact::CsetSetIsRep),
-];
+const CSET_SET_COUNT_FACTS: &[Fact] = &[facts::CSET_COUNTABLE, facts::CSET_SET_IS_REP];
 
 // Functor law map_cong of cset.
 const CSET_MAP_CONG: &str = "\
@@ -434,9 +417,9 @@ const CSET_MAP_CONG: &str = "\
 
 // The facts that it takes.
 const CSET_MAP_CONG_FACTS: &[Fact] = &[
-    Fact::Cset(CsetFact::CsetSetIsRep),
-    Fact::Cset(CsetFact::CsetMapMember),
-    Fact::Cset(CsetFact::CsetMapIs),
+    facts::CSET_SET_IS_REP,
+    facts::CSET_MAP_MEMBER,
+    facts::CSET_MAP_IS,
 ];
 
 // Where two functions are related on a set, each member of the one image has a related member of the other.
@@ -487,10 +470,7 @@ const CSET_MAPS_RELATE_EACH: &str = "\
 ";
 
 // The facts that it takes.
-const CSET_MAPS_RELATE_EACH_FACTS: &[Fact] = &[
-    Fact::Cset(CsetFact::CsetMapMember),
-    Fact::Cset(CsetFact::CsetMapExists),
-];
+const CSET_MAPS_RELATE_EACH_FACTS: &[Fact] = &[facts::CSET_MAP_MEMBER, facts::CSET_MAP_EXISTS];
 
 // Functions that are related on a set give related images.
 const CSET_MAPS_RELATED: &str = "\
@@ -531,7 +511,7 @@ const CSET_MAPS_RELATED: &str = "\
 ";
 
 // The facts that it takes.
-const CSET_MAPS_RELATED_FACTS: &[Fact] = &[Fact::Cset(CsetFact::CsetMapsRelateEach)];
+const CSET_MAPS_RELATED_FACTS: &[Fact] = &[facts::CSET_MAPS_RELATE_EACH];
 
 // The related pairs of two countable sets are a countable set.
 const CSET_RELATED_PAIRS: &str = "\
@@ -576,10 +556,10 @@ const CSET_RELATED_PAIRS: &str = "\
 
 // The facts that it takes.
 const CSET_RELATED_PAIRS_FACTS: &[Fact] = &[
-    Fact::Countable(CountableFact::CountableProduct),
-    Fact::Cset(CsetFact::CsetCountable),
-    Fact::Countable(CountableFact::CountableSubset),
-    Fact::Cset(CsetFact::CsetRepAbs),
+    facts::COUNTABLE_PRODUCT,
+    facts::CSET_COUNTABLE,
+    facts::COUNTABLE_SUBSET,
+    facts::CSET_REP_ABS,
 ];
 
 // The first components of the related pairs of related sets are the members of the first set.
@@ -645,10 +625,7 @@ const CSET_REL_FIRSTS: &str = "\
 ";
 
 // The facts that it takes.
-const CSET_REL_FIRSTS_FACTS: &[Fact] = &[
-    Fact::Product(ProductFact::FstPair),
-    Fact::Product(ProductFact::SndPair),
-];
+const CSET_REL_FIRSTS_FACTS: &[Fact] = &[th_base::facts::FST_PAIR, th_base::facts::SND_PAIR];
 
 // The second components of the related pairs of related sets are the members of the second set.
 const CSET_REL_SECONDS: &str = "\
@@ -714,10 +691,7 @@ const CSET_REL_SECONDS: &str = "\
 ";
 
 // The facts that it takes.
-const CSET_REL_SECONDS_FACTS: &[Fact] = &[
-    Fact::Product(ProductFact::FstPair),
-    Fact::Product(ProductFact::SndPair),
-];
+const CSET_REL_SECONDS_FACTS: &[Fact] = &[th_base::facts::FST_PAIR, th_base::facts::SND_PAIR];
 
 // Related sets are the images of the set of their related pairs.
 const CSET_REL_OF_PAIRS: &str = "\
@@ -780,9 +754,9 @@ const CSET_REL_OF_PAIRS: &str = "\
 
 // The facts that it takes.
 const CSET_REL_OF_PAIRS_FACTS: &[Fact] = &[
-    Fact::Cset(CsetFact::CsetMapIs),
-    Fact::Cset(CsetFact::CsetRelFirsts),
-    Fact::Cset(CsetFact::CsetRelSeconds),
+    facts::CSET_MAP_IS,
+    facts::CSET_REL_FIRSTS,
+    facts::CSET_REL_SECONDS,
 ];
 
 // Functor law rel_in of cset.
@@ -845,10 +819,10 @@ const CSET_REL_IN: &str = "\
 
 // The facts that it takes.
 const CSET_REL_IN_FACTS: &[Fact] = &[
-    Fact::Cset(CsetFact::CsetRelOfPairs),
-    Fact::Cset(CsetFact::CsetRelatedPairs),
-    Fact::Cset(CsetFact::CsetMapsRelated),
-    Fact::Cset(CsetFact::CsetSetIsRep),
+    facts::CSET_REL_OF_PAIRS,
+    facts::CSET_RELATED_PAIRS,
+    facts::CSET_MAPS_RELATED,
+    facts::CSET_SET_IS_REP,
 ];
 
 // Where a composition relates the values of two functions on a set, there is a set between the images.
@@ -908,10 +882,7 @@ const CSET_REL_BETWEEN: &str = "\
 ";
 
 // The facts that it takes.
-const CSET_REL_BETWEEN_FACTS: &[Fact] = &[
-    Fact::Logic(LogicFact::ChoiceOn),
-    Fact::Cset(CsetFact::CsetMapsRelated),
-];
+const CSET_REL_BETWEEN_FACTS: &[Fact] = &[th_base::facts::CHOICE_ON, facts::CSET_MAPS_RELATED];
 
 // Where a composition relates two sets, there is a set between them.
 const CSET_REL_SPLIT: &str = "\
@@ -968,9 +939,9 @@ const CSET_REL_SPLIT: &str = "\
 
 // The facts that it takes.
 const CSET_REL_SPLIT_FACTS: &[Fact] = &[
-    Fact::Cset(CsetFact::CsetRelIn),
-    Fact::Cset(CsetFact::CsetSetIsRep),
-    Fact::Cset(CsetFact::CsetRelBetween),
+    facts::CSET_REL_IN,
+    facts::CSET_SET_IS_REP,
+    facts::CSET_REL_BETWEEN,
 ];
 
 // Of three sets in a row, each member of the first has one of the last that the composition relates it to.
@@ -1147,151 +1118,99 @@ const CSET_REL_COMP: &str = "\
 
 // The facts that it takes.
 const CSET_REL_COMP_FACTS: &[Fact] = &[
-    Fact::Cset(CsetFact::CsetRelSplit),
-    Fact::Cset(CsetFact::CsetRelForwards),
-    Fact::Cset(CsetFact::CsetRelBackwards),
+    facts::CSET_REL_SPLIT,
+    facts::CSET_REL_FORWARDS,
+    facts::CSET_REL_BACKWARDS,
 ];
 
 // The definitions and the facts, in order.
 pub(crate) static STEPS: [Step; 32] = [
     Step::NewType(44, CSET_INHABITED),
+    Step::Prove(facts::CSET_ABS_REP, CSET_ABS_REP_FACTS, CSET_ABS_REP),
+    Step::Prove(facts::CSET_REP_ABS, CSET_REP_ABS_FACTS, CSET_REP_ABS),
+    Step::Prove(facts::CSET_COUNTABLE, CSET_COUNTABLE_FACTS, CSET_COUNTABLE),
     Step::Prove(
-        Fact::Cset(CsetFact::CsetAbsRep),
-        CSET_ABS_REP_FACTS,
-        CSET_ABS_REP,
-    ),
-    Step::Prove(
-        Fact::Cset(CsetFact::CsetRepAbs),
-        CSET_REP_ABS_FACTS,
-        CSET_REP_ABS,
-    ),
-    Step::Prove(
-        Fact::Cset(CsetFact::CsetCountable),
-        CSET_COUNTABLE_FACTS,
-        CSET_COUNTABLE,
-    ),
-    Step::Prove(
-        Fact::Cset(CsetFact::CsetExtensionality),
+        facts::CSET_EXTENSIONALITY,
         CSET_EXTENSIONALITY_FACTS,
         CSET_EXTENSIONALITY,
     ),
-    Step::Prove(
-        Fact::Cset(CsetFact::CsetMember),
-        CSET_MEMBER_FACTS,
-        CSET_MEMBER,
-    ),
+    Step::Prove(facts::CSET_MEMBER, CSET_MEMBER_FACTS, CSET_MEMBER),
     Step::Constant(45),
     Step::Constant(46),
     Step::Prove(
-        Fact::Cset(CsetFact::CsetMapMember),
+        facts::CSET_MAP_MEMBER,
         CSET_MAP_MEMBER_FACTS,
         CSET_MAP_MEMBER,
     ),
+    Step::Prove(facts::CSET_MAP_IS, CSET_MAP_IS_FACTS, CSET_MAP_IS),
     Step::Prove(
-        Fact::Cset(CsetFact::CsetMapIs),
-        CSET_MAP_IS_FACTS,
-        CSET_MAP_IS,
-    ),
-    Step::Prove(
-        Fact::Cset(CsetFact::CsetMapExists),
+        facts::CSET_MAP_EXISTS,
         CSET_MAP_EXISTS_FACTS,
         CSET_MAP_EXISTS,
     ),
-    Step::Prove(
-        Fact::Cset(CsetFact::CsetMapId),
-        CSET_MAP_ID_FACTS,
-        CSET_MAP_ID,
-    ),
-    Step::Prove(
-        Fact::Cset(CsetFact::CsetMapComp),
-        CSET_MAP_COMP_FACTS,
-        CSET_MAP_COMP,
-    ),
+    Step::Prove(facts::CSET_MAP_ID, CSET_MAP_ID_FACTS, CSET_MAP_ID),
+    Step::Prove(facts::CSET_MAP_COMP, CSET_MAP_COMP_FACTS, CSET_MAP_COMP),
     Step::Constant(47),
     Step::Prove(
-        Fact::Cset(CsetFact::CsetSetIsRep),
+        facts::CSET_SET_IS_REP,
         CSET_SET_IS_REP_FACTS,
         CSET_SET_IS_REP,
     ),
     Step::Prove(
-        Fact::Cset(CsetFact::CsetSetMember),
+        facts::CSET_SET_MEMBER,
         CSET_SET_MEMBER_FACTS,
         CSET_SET_MEMBER,
     ),
-    Step::Prove(
-        Fact::Cset(CsetFact::CsetSetMap),
-        CSET_SET_MAP_FACTS,
-        CSET_SET_MAP,
-    ),
-    Step::Prove(
-        Fact::Cset(CsetFact::CsetSetCount),
-        CSET_SET_COUNT_FACTS,
-        CSET_SET_COUNT,
-    ),
-    Step::Prove(
-        Fact::Cset(CsetFact::CsetMapCong),
-        CSET_MAP_CONG_FACTS,
-        CSET_MAP_CONG,
-    ),
+    Step::Prove(facts::CSET_SET_MAP, CSET_SET_MAP_FACTS, CSET_SET_MAP),
+    Step::Prove(facts::CSET_SET_COUNT, CSET_SET_COUNT_FACTS, CSET_SET_COUNT),
+    Step::Prove(facts::CSET_MAP_CONG, CSET_MAP_CONG_FACTS, CSET_MAP_CONG),
     Step::Constant(48),
     Step::Prove(
-        Fact::Cset(CsetFact::CsetMapsRelateEach),
+        facts::CSET_MAPS_RELATE_EACH,
         CSET_MAPS_RELATE_EACH_FACTS,
         CSET_MAPS_RELATE_EACH,
     ),
     Step::Prove(
-        Fact::Cset(CsetFact::CsetMapsRelated),
+        facts::CSET_MAPS_RELATED,
         CSET_MAPS_RELATED_FACTS,
         CSET_MAPS_RELATED,
     ),
     Step::Prove(
-        Fact::Cset(CsetFact::CsetRelatedPairs),
+        facts::CSET_RELATED_PAIRS,
         CSET_RELATED_PAIRS_FACTS,
         CSET_RELATED_PAIRS,
     ),
     Step::Prove(
-        Fact::Cset(CsetFact::CsetRelFirsts),
+        facts::CSET_REL_FIRSTS,
         CSET_REL_FIRSTS_FACTS,
         CSET_REL_FIRSTS,
     ),
     Step::Prove(
-        Fact::Cset(CsetFact::CsetRelSeconds),
+        facts::CSET_REL_SECONDS,
         CSET_REL_SECONDS_FACTS,
         CSET_REL_SECONDS,
     ),
     Step::Prove(
-        Fact::Cset(CsetFact::CsetRelOfPairs),
+        facts::CSET_REL_OF_PAIRS,
         CSET_REL_OF_PAIRS_FACTS,
         CSET_REL_OF_PAIRS,
     ),
+    Step::Prove(facts::CSET_REL_IN, CSET_REL_IN_FACTS, CSET_REL_IN),
     Step::Prove(
-        Fact::Cset(CsetFact::CsetRelIn),
-        CSET_REL_IN_FACTS,
-        CSET_REL_IN,
-    ),
-    Step::Prove(
-        Fact::Cset(CsetFact::CsetRelBetween),
+        facts::CSET_REL_BETWEEN,
         CSET_REL_BETWEEN_FACTS,
         CSET_REL_BETWEEN,
     ),
+    Step::Prove(facts::CSET_REL_SPLIT, CSET_REL_SPLIT_FACTS, CSET_REL_SPLIT),
     Step::Prove(
-        Fact::Cset(CsetFact::CsetRelSplit),
-        CSET_REL_SPLIT_FACTS,
-        CSET_REL_SPLIT,
-    ),
-    Step::Prove(
-        Fact::Cset(CsetFact::CsetRelForwards),
+        facts::CSET_REL_FORWARDS,
         CSET_REL_FORWARDS_FACTS,
         CSET_REL_FORWARDS,
     ),
     Step::Prove(
-        Fact::Cset(CsetFact::CsetRelBackwards),
+        facts::CSET_REL_BACKWARDS,
         CSET_REL_BACKWARDS_FACTS,
         CSET_REL_BACKWARDS,
     ),
-    Step::Prove(
-        Fact::Cset(CsetFact::CsetRelComp),
-        CSET_REL_COMP_FACTS,
-        CSET_REL_COMP,
-    ),
+    Step::Prove(facts::CSET_REL_COMP, CSET_REL_COMP_FACTS, CSET_REL_COMP),
 ];

@@ -2,7 +2,8 @@
 //! Numbers, recursion over them, and their order: the proof tables, and the steps of the building. Each line of a table puts
 //! one type, term or theorem at the end of its register; the theorems begin with the facts that the table takes.
 
-use library_facts::{Fact, LogicFact, NumberFact, OrderFact, ProductFact};
+use crate::facts;
+use library_facts::Fact;
 use library_steps::Step;
 
 // The successor on ind is injective and not onto.
@@ -22,7 +23,7 @@ const IND_INFINITE: &str = "\
 ";
 
 // The facts that it takes.
-const IND_INFINITE_FACTS: &[Fact] = &[Fact::Logic(LogicFact::SomeHolds)];
+const IND_INFINITE_FACTS: &[Fact] = &[th_base::facts::SOME_HOLDS];
 
 // What stands for zero in ind is no successor.
 const ZERO_IND_NOT_SUC: &str = "\
@@ -70,9 +71,9 @@ const ZERO_IND_NOT_SUC: &str = "\
 
 // The facts that it takes.
 const ZERO_IND_NOT_SUC_FACTS: &[Fact] = &[
-    Fact::Number(NumberFact::IndInfinite),
-    Fact::Logic(LogicFact::NotAll),
-    Fact::Logic(LogicFact::SomeHolds),
+    facts::IND_INFINITE,
+    th_base::facts::NOT_ALL,
+    th_base::facts::SOME_HOLDS,
 ];
 
 // It represents a number.
@@ -175,10 +176,7 @@ const REP_IS_NUM: &str = "\
 ";
 
 // The facts that it takes.
-const REP_IS_NUM_FACTS: &[Fact] = &[
-    Fact::Number(NumberFact::NumAbsRep),
-    Fact::Number(NumberFact::NumRepAbs),
-];
+const REP_IS_NUM_FACTS: &[Fact] = &[facts::NUM_ABS_REP, facts::NUM_REP_ABS];
 
 // How zero is represented.
 const REP_ZERO: &str = "\
@@ -193,10 +191,7 @@ const REP_ZERO: &str = "\
 ";
 
 // The facts that it takes.
-const REP_ZERO_FACTS: &[Fact] = &[
-    Fact::Number(NumberFact::NumRepAbs),
-    Fact::Number(NumberFact::ZeroIndIsNum),
-];
+const REP_ZERO_FACTS: &[Fact] = &[facts::NUM_REP_ABS, facts::ZERO_IND_IS_NUM];
 
 // How a successor is represented.
 const REP_SUC: &str = "\
@@ -220,11 +215,7 @@ const REP_SUC: &str = "\
 ";
 
 // The facts that it takes.
-const REP_SUC_FACTS: &[Fact] = &[
-    Fact::Number(NumberFact::SucIndIsNum),
-    Fact::Number(NumberFact::RepIsNum),
-    Fact::Number(NumberFact::NumRepAbs),
-];
+const REP_SUC_FACTS: &[Fact] = &[facts::SUC_IND_IS_NUM, facts::REP_IS_NUM, facts::NUM_REP_ABS];
 
 // A successor is not zero.
 const SUC_NOT_ZERO: &str = "\
@@ -248,11 +239,7 @@ const SUC_NOT_ZERO: &str = "\
 ";
 
 // The facts that it takes.
-const SUC_NOT_ZERO_FACTS: &[Fact] = &[
-    Fact::Number(NumberFact::RepSuc),
-    Fact::Number(NumberFact::RepZero),
-    Fact::Number(NumberFact::ZeroIndNotSuc),
-];
+const SUC_NOT_ZERO_FACTS: &[Fact] = &[facts::REP_SUC, facts::REP_ZERO, facts::ZERO_IND_NOT_SUC];
 
 // Numbers with equal successors are equal.
 const SUC_INJECTIVE: &str = "\
@@ -295,11 +282,7 @@ const SUC_INJECTIVE: &str = "\
 ";
 
 // The facts that it takes.
-const SUC_INJECTIVE_FACTS: &[Fact] = &[
-    Fact::Number(NumberFact::RepSuc),
-    Fact::Number(NumberFact::IndInfinite),
-    Fact::Number(NumberFact::NumAbsRep),
-];
+const SUC_INJECTIVE_FACTS: &[Fact] = &[facts::REP_SUC, facts::IND_INFINITE, facts::NUM_ABS_REP];
 
 // Induction over numbers.
 const NUM_INDUCTION: &str = "\
@@ -359,11 +342,11 @@ const NUM_INDUCTION: &str = "\
 
 // The facts that it takes.
 const NUM_INDUCTION_FACTS: &[Fact] = &[
-    Fact::Number(NumberFact::RepIsNum),
-    Fact::Number(NumberFact::ZeroIndIsNum),
-    Fact::Number(NumberFact::NumRepAbs),
-    Fact::Number(NumberFact::SucIndIsNum),
-    Fact::Number(NumberFact::NumAbsRep),
+    facts::REP_IS_NUM,
+    facts::ZERO_IND_IS_NUM,
+    facts::NUM_REP_ABS,
+    facts::SUC_IND_IS_NUM,
+    facts::NUM_ABS_REP,
 ];
 
 // A number is zero or a successor.
@@ -390,7 +373,7 @@ const NUM_CASES: &str = "\
 ";
 
 // The facts that it takes.
-const NUM_CASES_FACTS: &[Fact] = &[Fact::Number(NumberFact::NumInduction)];
+const NUM_CASES_FACTS: &[Fact] = &[facts::NUM_INDUCTION];
 
 // Knaster and Tarski: a monotone function of relations has a fixed relation.
 const FIXED_RELATION: &str = "\
@@ -514,7 +497,7 @@ const RECURSION_GRAPH: &str = "\
 ";
 
 // The facts that it takes.
-const RECURSION_GRAPH_FACTS: &[Fact] = &[Fact::Number(NumberFact::FixedRelation)];
+const RECURSION_GRAPH_FACTS: &[Fact] = &[facts::FIXED_RELATION];
 
 // Where no step gives zero, such a relation has the start alone at zero.
 const GRAPH_AT_ZERO: &str = "\
@@ -690,7 +673,7 @@ const GRAPH_AT_STEP: &str = "\
 ";
 
 // The facts that it takes.
-const GRAPH_AT_STEP_FACTS: &[Fact] = &[Fact::Number(NumberFact::OnePointOfTwo)];
+const GRAPH_AT_STEP_FACTS: &[Fact] = &[facts::ONE_POINT_OF_TWO];
 
 // One-point rule: where b alone satisfies P, there is one that satisfies P and Q where b satisfies Q.
 const ONLY_ONE: &str = "\
@@ -786,7 +769,7 @@ const GRAPH_VALUES: &str = "\
 ";
 
 // The facts that it takes.
-const GRAPH_VALUES_FACTS: &[Fact] = &[Fact::Number(NumberFact::OnlyOne)];
+const GRAPH_VALUES_FACTS: &[Fact] = &[facts::ONLY_ONE];
 
 // The function of these values satisfies the equations of recursion.
 const GRAPH_FUNCTION: &str = "\
@@ -857,10 +840,7 @@ const GRAPH_FUNCTION: &str = "\
 ";
 
 // The facts that it takes.
-const GRAPH_FUNCTION_FACTS: &[Fact] = &[
-    Fact::Logic(LogicFact::Choice),
-    Fact::Number(NumberFact::OnlyOne),
-];
+const GRAPH_FUNCTION_FACTS: &[Fact] = &[th_base::facts::CHOICE, facts::ONLY_ONE];
 
 // By induction along the steps, a relation with both equations of the graph gives a function of recursion.
 const RECURSION_FROM_GRAPH: &str = "\
@@ -898,10 +878,7 @@ const RECURSION_FROM_GRAPH: &str = "\
 ";
 
 // The facts that it takes.
-const RECURSION_FROM_GRAPH_FACTS: &[Fact] = &[
-    Fact::Number(NumberFact::GraphValues),
-    Fact::Number(NumberFact::GraphFunction),
-];
+const RECURSION_FROM_GRAPH_FACTS: &[Fact] = &[facts::GRAPH_VALUES, facts::GRAPH_FUNCTION];
 
 // Recursion along steps that are injective, never zero, and reach each number.
 const RECURSION: &str = "\
@@ -951,10 +928,10 @@ const RECURSION: &str = "\
 
 // The facts that it takes.
 const RECURSION_FACTS: &[Fact] = &[
-    Fact::Number(NumberFact::GraphAtZero),
-    Fact::Number(NumberFact::GraphAtStep),
-    Fact::Number(NumberFact::RecursionFromGraph),
-    Fact::Number(NumberFact::RecursionGraph),
+    facts::GRAPH_AT_ZERO,
+    facts::GRAPH_AT_STEP,
+    facts::RECURSION_FROM_GRAPH,
+    facts::RECURSION_GRAPH,
 ];
 
 // Recursion over numbers: there is a function with these two equations.
@@ -1020,11 +997,11 @@ const NUM_RECURSION: &str = "\
 
 // The facts that it takes.
 const NUM_RECURSION_FACTS: &[Fact] = &[
-    Fact::Number(NumberFact::Recursion),
-    Fact::Number(NumberFact::SucNotZero),
-    Fact::Product(ProductFact::UnitEqual),
-    Fact::Number(NumberFact::SucInjective),
-    Fact::Number(NumberFact::NumInduction),
+    facts::RECURSION,
+    facts::SUC_NOT_ZERO,
+    th_base::facts::UNIT_EQUAL,
+    facts::SUC_INJECTIVE,
+    facts::NUM_INDUCTION,
 ];
 
 // The recursor satisfies both equations.
@@ -1052,10 +1029,7 @@ const REC_EQUATIONS: &str = "\
 ";
 
 // The facts that it takes.
-const REC_EQUATIONS_FACTS: &[Fact] = &[
-    Fact::Logic(LogicFact::SomeHolds),
-    Fact::Number(NumberFact::NumRecursion),
-];
+const REC_EQUATIONS_FACTS: &[Fact] = &[th_base::facts::SOME_HOLDS, facts::NUM_RECURSION];
 
 // The recursor at zero.
 const REC_ZERO: &str = "\
@@ -1069,7 +1043,7 @@ const REC_ZERO: &str = "\
 ";
 
 // The facts that it takes.
-const REC_ZERO_FACTS: &[Fact] = &[Fact::Number(NumberFact::RecEquations)];
+const REC_ZERO_FACTS: &[Fact] = &[facts::REC_EQUATIONS];
 
 // The recursor at a successor.
 const REC_SUC: &str = "\
@@ -1083,7 +1057,7 @@ const REC_SUC: &str = "\
 ";
 
 // The facts that it takes.
-const REC_SUC_FACTS: &[Fact] = &[Fact::Number(NumberFact::RecEquations)];
+const REC_SUC_FACTS: &[Fact] = &[facts::REC_EQUATIONS];
 
 // A number is at most itself.
 const LE_REFLEXIVE: &str = "\
@@ -1188,10 +1162,7 @@ const LE_TRANSITIVE: &str = "\
 ";
 
 // The facts that it takes.
-const LE_TRANSITIVE_FACTS: &[Fact] = &[
-    Fact::Order(OrderFact::LeInduction),
-    Fact::Order(OrderFact::LeSuc),
-];
+const LE_TRANSITIVE_FACTS: &[Fact] = &[facts::LE_INDUCTION, facts::LE_SUC];
 
 // Successors keep the order.
 const LE_SUC_SUC: &str = "\
@@ -1216,11 +1187,7 @@ const LE_SUC_SUC: &str = "\
 ";
 
 // The facts that it takes.
-const LE_SUC_SUC_FACTS: &[Fact] = &[
-    Fact::Order(OrderFact::LeInduction),
-    Fact::Order(OrderFact::LeSuc),
-    Fact::Order(OrderFact::LeReflexive),
-];
+const LE_SUC_SUC_FACTS: &[Fact] = &[facts::LE_INDUCTION, facts::LE_SUC, facts::LE_REFLEXIVE];
 
 // What is at most a number is that number or below it.
 const LE_CASES: &str = "\
@@ -1260,11 +1227,7 @@ const LE_CASES: &str = "\
 ";
 
 // The facts that it takes.
-const LE_CASES_FACTS: &[Fact] = &[
-    Fact::Order(OrderFact::LeInduction),
-    Fact::Order(OrderFact::LeReflexive),
-    Fact::Order(OrderFact::LeSuc),
-];
+const LE_CASES_FACTS: &[Fact] = &[facts::LE_INDUCTION, facts::LE_REFLEXIVE, facts::LE_SUC];
 
 // Nothing is below zero.
 const NONE_BELOW_ZERO: &str = "\
@@ -1296,10 +1259,7 @@ const NONE_BELOW_ZERO: &str = "\
 ";
 
 // The facts that it takes.
-const NONE_BELOW_ZERO_FACTS: &[Fact] = &[
-    Fact::Order(OrderFact::LeInduction),
-    Fact::Number(NumberFact::SucNotZero),
-];
+const NONE_BELOW_ZERO_FACTS: &[Fact] = &[facts::LE_INDUCTION, facts::SUC_NOT_ZERO];
 
 // The order of successors is that of the numbers.
 const LE_OF_SUCS: &str = "\
@@ -1362,10 +1322,10 @@ const LE_OF_SUCS: &str = "\
 
 // The facts that it takes.
 const LE_OF_SUCS_FACTS: &[Fact] = &[
-    Fact::Order(OrderFact::LeInduction),
-    Fact::Order(OrderFact::LeReflexive),
-    Fact::Order(OrderFact::LeSuc),
-    Fact::Number(NumberFact::SucInjective),
+    facts::LE_INDUCTION,
+    facts::LE_REFLEXIVE,
+    facts::LE_SUC,
+    facts::SUC_INJECTIVE,
 ];
 
 // Induction over smaller numbers.
@@ -1427,171 +1387,83 @@ const STRONG_INDUCTION: &str = "\
 
 // The facts that it takes.
 const STRONG_INDUCTION_FACTS: &[Fact] = &[
-    Fact::Number(NumberFact::NumInduction),
-    Fact::Order(OrderFact::NoneBelowZero),
-    Fact::Order(OrderFact::LeCases),
-    Fact::Order(OrderFact::LeOfSucs),
+    facts::NUM_INDUCTION,
+    facts::NONE_BELOW_ZERO,
+    facts::LE_CASES,
+    facts::LE_OF_SUCS,
 ];
 
 // The definitions and the facts, in order.
 pub(crate) static STEPS: [Step; 44] = [
     Step::Constant(33),
-    Step::Prove(
-        Fact::Number(NumberFact::IndInfinite),
-        IND_INFINITE_FACTS,
-        IND_INFINITE,
-    ),
+    Step::Prove(facts::IND_INFINITE, IND_INFINITE_FACTS, IND_INFINITE),
     Step::Constant(34),
     Step::Prove(
-        Fact::Number(NumberFact::ZeroIndNotSuc),
+        facts::ZERO_IND_NOT_SUC,
         ZERO_IND_NOT_SUC_FACTS,
         ZERO_IND_NOT_SUC,
     ),
     Step::Constant(35),
     Step::Prove(
-        Fact::Number(NumberFact::ZeroIndIsNum),
+        facts::ZERO_IND_IS_NUM,
         ZERO_IND_IS_NUM_FACTS,
         ZERO_IND_IS_NUM,
     ),
-    Step::Prove(
-        Fact::Number(NumberFact::SucIndIsNum),
-        SUC_IND_IS_NUM_FACTS,
-        SUC_IND_IS_NUM,
-    ),
+    Step::Prove(facts::SUC_IND_IS_NUM, SUC_IND_IS_NUM_FACTS, SUC_IND_IS_NUM),
     Step::NewType(36, NUM_INHABITED),
-    Step::Prove(
-        Fact::Number(NumberFact::NumAbsRep),
-        NUM_ABS_REP_FACTS,
-        NUM_ABS_REP,
-    ),
-    Step::Prove(
-        Fact::Number(NumberFact::NumRepAbs),
-        NUM_REP_ABS_FACTS,
-        NUM_REP_ABS,
-    ),
-    Step::Prove(
-        Fact::Number(NumberFact::RepIsNum),
-        REP_IS_NUM_FACTS,
-        REP_IS_NUM,
-    ),
+    Step::Prove(facts::NUM_ABS_REP, NUM_ABS_REP_FACTS, NUM_ABS_REP),
+    Step::Prove(facts::NUM_REP_ABS, NUM_REP_ABS_FACTS, NUM_REP_ABS),
+    Step::Prove(facts::REP_IS_NUM, REP_IS_NUM_FACTS, REP_IS_NUM),
     Step::Constant(37),
-    Step::Prove(Fact::Number(NumberFact::RepZero), REP_ZERO_FACTS, REP_ZERO),
+    Step::Prove(facts::REP_ZERO, REP_ZERO_FACTS, REP_ZERO),
     Step::Constant(38),
-    Step::Prove(Fact::Number(NumberFact::RepSuc), REP_SUC_FACTS, REP_SUC),
+    Step::Prove(facts::REP_SUC, REP_SUC_FACTS, REP_SUC),
+    Step::Prove(facts::SUC_NOT_ZERO, SUC_NOT_ZERO_FACTS, SUC_NOT_ZERO),
+    Step::Prove(facts::SUC_INJECTIVE, SUC_INJECTIVE_FACTS, SUC_INJECTIVE),
+    Step::Prove(facts::NUM_INDUCTION, NUM_INDUCTION_FACTS, NUM_INDUCTION),
+    Step::Prove(facts::NUM_CASES, NUM_CASES_FACTS, NUM_CASES),
+    Step::Prove(facts::FIXED_RELATION, FIXED_RELATION_FACTS, FIXED_RELATION),
     Step::Prove(
-        Fact::Number(NumberFact::SucNotZero),
-        SUC_NOT_ZERO_FACTS,
-        SUC_NOT_ZERO,
-    ),
-    Step::Prove(
-        Fact::Number(NumberFact::SucInjective),
-        SUC_INJECTIVE_FACTS,
-        SUC_INJECTIVE,
-    ),
-    Step::Prove(
-        Fact::Number(NumberFact::NumInduction),
-        NUM_INDUCTION_FACTS,
-        NUM_INDUCTION,
-    ),
-    Step::Prove(
-        Fact::Number(NumberFact::NumCases),
-        NUM_CASES_FACTS,
-        NUM_CASES,
-    ),
-    Step::Prove(
-        Fact::Number(NumberFact::FixedRelation),
-        FIXED_RELATION_FACTS,
-        FIXED_RELATION,
-    ),
-    Step::Prove(
-        Fact::Number(NumberFact::RecursionGraph),
+        facts::RECURSION_GRAPH,
         RECURSION_GRAPH_FACTS,
         RECURSION_GRAPH,
     ),
+    Step::Prove(facts::GRAPH_AT_ZERO, GRAPH_AT_ZERO_FACTS, GRAPH_AT_ZERO),
     Step::Prove(
-        Fact::Number(NumberFact::GraphAtZero),
-        GRAPH_AT_ZERO_FACTS,
-        GRAPH_AT_ZERO,
-    ),
-    Step::Prove(
-        Fact::Number(NumberFact::OnePointOfTwo),
+        facts::ONE_POINT_OF_TWO,
         ONE_POINT_OF_TWO_FACTS,
         ONE_POINT_OF_TWO,
     ),
+    Step::Prove(facts::GRAPH_AT_STEP, GRAPH_AT_STEP_FACTS, GRAPH_AT_STEP),
+    Step::Prove(facts::ONLY_ONE, ONLY_ONE_FACTS, ONLY_ONE),
+    Step::Prove(facts::GRAPH_VALUES, GRAPH_VALUES_FACTS, GRAPH_VALUES),
+    Step::Prove(facts::GRAPH_FUNCTION, GRAPH_FUNCTION_FACTS, GRAPH_FUNCTION),
     Step::Prove(
-        Fact::Number(NumberFact::GraphAtStep),
-        GRAPH_AT_STEP_FACTS,
-        GRAPH_AT_STEP,
-    ),
-    Step::Prove(Fact::Number(NumberFact::OnlyOne), ONLY_ONE_FACTS, ONLY_ONE),
-    Step::Prove(
-        Fact::Number(NumberFact::GraphValues),
-        GRAPH_VALUES_FACTS,
-        GRAPH_VALUES,
-    ),
-    Step::Prove(
-        Fact::Number(NumberFact::GraphFunction),
-        GRAPH_FUNCTION_FACTS,
-        GRAPH_FUNCTION,
-    ),
-    Step::Prove(
-        Fact::Number(NumberFact::RecursionFromGraph),
+        facts::RECURSION_FROM_GRAPH,
         RECURSION_FROM_GRAPH_FACTS,
         RECURSION_FROM_GRAPH,
     ),
-    Step::Prove(
-        Fact::Number(NumberFact::Recursion),
-        RECURSION_FACTS,
-        RECURSION,
-    ),
-    Step::Prove(
-        Fact::Number(NumberFact::NumRecursion),
-        NUM_RECURSION_FACTS,
-        NUM_RECURSION,
-    ),
+    Step::Prove(facts::RECURSION, RECURSION_FACTS, RECURSION),
+    Step::Prove(facts::NUM_RECURSION, NUM_RECURSION_FACTS, NUM_RECURSION),
     Step::Constant(39),
-    Step::Prove(
-        Fact::Number(NumberFact::RecEquations),
-        REC_EQUATIONS_FACTS,
-        REC_EQUATIONS,
-    ),
-    Step::Prove(Fact::Number(NumberFact::RecZero), REC_ZERO_FACTS, REC_ZERO),
-    Step::Prove(Fact::Number(NumberFact::RecSuc), REC_SUC_FACTS, REC_SUC),
+    Step::Prove(facts::REC_EQUATIONS, REC_EQUATIONS_FACTS, REC_EQUATIONS),
+    Step::Prove(facts::REC_ZERO, REC_ZERO_FACTS, REC_ZERO),
+    Step::Prove(facts::REC_SUC, REC_SUC_FACTS, REC_SUC),
     Step::Constant(40),
+    Step::Prove(facts::LE_REFLEXIVE, LE_REFLEXIVE_FACTS, LE_REFLEXIVE),
+    Step::Prove(facts::LE_SUC, LE_SUC_FACTS, LE_SUC),
+    Step::Prove(facts::LE_INDUCTION, LE_INDUCTION_FACTS, LE_INDUCTION),
+    Step::Prove(facts::LE_TRANSITIVE, LE_TRANSITIVE_FACTS, LE_TRANSITIVE),
+    Step::Prove(facts::LE_SUC_SUC, LE_SUC_SUC_FACTS, LE_SUC_SUC),
+    Step::Prove(facts::LE_CASES, LE_CASES_FACTS, LE_CASES),
     Step::Prove(
-        Fact::Order(OrderFact::LeReflexive),
-        LE_REFLEXIVE_FACTS,
-        LE_REFLEXIVE,
-    ),
-    Step::Prove(Fact::Order(OrderFact::LeSuc), LE_SUC_FACTS, LE_SUC),
-    Step::Prove(
-        Fact::Order(OrderFact::LeInduction),
-        LE_INDUCTION_FACTS,
-        LE_INDUCTION,
-    ),
-    Step::Prove(
-        Fact::Order(OrderFact::LeTransitive),
-        LE_TRANSITIVE_FACTS,
-        LE_TRANSITIVE,
-    ),
-    Step::Prove(
-        Fact::Order(OrderFact::LeSucSuc),
-        LE_SUC_SUC_FACTS,
-        LE_SUC_SUC,
-    ),
-    Step::Prove(Fact::Order(OrderFact::LeCases), LE_CASES_FACTS, LE_CASES),
-    Step::Prove(
-        Fact::Order(OrderFact::NoneBelowZero),
+        facts::NONE_BELOW_ZERO,
         NONE_BELOW_ZERO_FACTS,
         NONE_BELOW_ZERO,
     ),
+    Step::Prove(facts::LE_OF_SUCS, LE_OF_SUCS_FACTS, LE_OF_SUCS),
     Step::Prove(
-        Fact::Order(OrderFact::LeOfSucs),
-        LE_OF_SUCS_FACTS,
-        LE_OF_SUCS,
-    ),
-    Step::Prove(
-        Fact::Order(OrderFact::StrongInduction),
+        facts::STRONG_INDUCTION,
         STRONG_INDUCTION_FACTS,
         STRONG_INDUCTION,
     ),

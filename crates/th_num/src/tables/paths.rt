@@ -2,7 +2,8 @@
 //! Doubling and path codes: the proof tables, and the steps of the building. Each line of a table puts
 //! one type, term or theorem at the end of its register; the theorems begin with the facts that the table takes.
 
-use library_facts::{Fact, LogicFact, NumberFact, OrderFact, PathFact};
+use crate::facts;
+use library_facts::Fact;
 use library_steps::Step;
 
 // Twice zero.
@@ -21,7 +22,7 @@ const DOUBLE_ZERO: &str = "\
 ";
 
 // The facts that it takes.
-const DOUBLE_ZERO_FACTS: &[Fact] = &[Fact::Number(NumberFact::RecZero)];
+const DOUBLE_ZERO_FACTS: &[Fact] = &[facts::REC_ZERO];
 
 // Twice a successor.
 const DOUBLE_SUC: &str = "\
@@ -40,7 +41,7 @@ const DOUBLE_SUC: &str = "\
 ";
 
 // The facts that it takes.
-const DOUBLE_SUC_FACTS: &[Fact] = &[Fact::Number(NumberFact::RecSuc)];
+const DOUBLE_SUC_FACTS: &[Fact] = &[facts::REC_SUC];
 
 // A function that gives the first of two functions of n at twice n, and the second at the number after it.
 const EVEN_ODD_SELECTOR: &str = "\
@@ -97,10 +98,10 @@ const EVEN_ODD_SELECTOR: &str = "\
 
 // The facts that it takes.
 const EVEN_ODD_SELECTOR_FACTS: &[Fact] = &[
-    Fact::Number(NumberFact::NumRecursion),
-    Fact::Path(PathFact::DoubleZero),
-    Fact::Path(PathFact::DoubleSuc),
-    Fact::Number(NumberFact::NumInduction),
+    facts::NUM_RECURSION,
+    facts::DOUBLE_ZERO,
+    facts::DOUBLE_SUC,
+    facts::NUM_INDUCTION,
 ];
 
 // An even number is not odd.
@@ -140,10 +141,7 @@ const DOUBLE_NOT_ODD: &str = "\
 ";
 
 // The facts that it takes.
-const DOUBLE_NOT_ODD_FACTS: &[Fact] = &[
-    Fact::Logic(LogicFact::Truth),
-    Fact::Path(PathFact::EvenOddSelector),
-];
+const DOUBLE_NOT_ODD_FACTS: &[Fact] = &[th_base::facts::TRUTH, facts::EVEN_ODD_SELECTOR];
 
 // Numbers of which the doubles are equal are equal.
 const DOUBLE_INJECTIVE: &str = "\
@@ -178,7 +176,7 @@ const DOUBLE_INJECTIVE: &str = "\
 ";
 
 // The facts that it takes.
-const DOUBLE_INJECTIVE_FACTS: &[Fact] = &[Fact::Path(PathFact::EvenOddSelector)];
+const DOUBLE_INJECTIVE_FACTS: &[Fact] = &[facts::EVEN_ODD_SELECTOR];
 
 // Twice zero alone is zero.
 const DOUBLE_IS_ZERO: &str = "\
@@ -196,10 +194,7 @@ const DOUBLE_IS_ZERO: &str = "\
 ";
 
 // The facts that it takes.
-const DOUBLE_IS_ZERO_FACTS: &[Fact] = &[
-    Fact::Path(PathFact::DoubleInjective),
-    Fact::Path(PathFact::DoubleZero),
-];
+const DOUBLE_IS_ZERO_FACTS: &[Fact] = &[facts::DOUBLE_INJECTIVE, facts::DOUBLE_ZERO];
 
 // A number is at most its double.
 const LE_DOUBLE: &str = "\
@@ -235,12 +230,12 @@ const LE_DOUBLE: &str = "\
 
 // The facts that it takes.
 const LE_DOUBLE_FACTS: &[Fact] = &[
-    Fact::Path(PathFact::DoubleZero),
-    Fact::Order(OrderFact::LeReflexive),
-    Fact::Order(OrderFact::LeSucSuc),
-    Fact::Order(OrderFact::LeSuc),
-    Fact::Path(PathFact::DoubleSuc),
-    Fact::Number(NumberFact::NumInduction),
+    facts::DOUBLE_ZERO,
+    facts::LE_REFLEXIVE,
+    facts::LE_SUC_SUC,
+    facts::LE_SUC,
+    facts::DOUBLE_SUC,
+    facts::NUM_INDUCTION,
 ];
 
 // A number is zero or below its double.
@@ -279,10 +274,10 @@ const BELOW_DOUBLE: &str = "\
 
 // The facts that it takes.
 const BELOW_DOUBLE_FACTS: &[Fact] = &[
-    Fact::Order(OrderFact::LeSucSuc),
-    Fact::Path(PathFact::LeDouble),
-    Fact::Path(PathFact::DoubleSuc),
-    Fact::Number(NumberFact::NumInduction),
+    facts::LE_SUC_SUC,
+    facts::LE_DOUBLE,
+    facts::DOUBLE_SUC,
+    facts::NUM_INDUCTION,
 ];
 
 // A number is even or odd.
@@ -330,11 +325,7 @@ const EVEN_OR_ODD: &str = "\
 ";
 
 // The facts that it takes.
-const EVEN_OR_ODD_FACTS: &[Fact] = &[
-    Fact::Path(PathFact::DoubleZero),
-    Fact::Path(PathFact::DoubleSuc),
-    Fact::Number(NumberFact::NumInduction),
-];
+const EVEN_OR_ODD_FACTS: &[Fact] = &[facts::DOUBLE_ZERO, facts::DOUBLE_SUC, facts::NUM_INDUCTION];
 
 // The path code of a step 0.
 const CONS_ZERO: &str = "\
@@ -354,7 +345,7 @@ const CONS_ZERO: &str = "\
 ";
 
 // The facts that it takes.
-const CONS_ZERO_FACTS: &[Fact] = &[Fact::Number(NumberFact::RecZero)];
+const CONS_ZERO_FACTS: &[Fact] = &[facts::REC_ZERO];
 
 // The path code of a step that is a successor.
 const CONS_SUC: &str = "\
@@ -379,7 +370,7 @@ const CONS_SUC: &str = "\
 ";
 
 // The facts that it takes.
-const CONS_SUC_FACTS: &[Fact] = &[Fact::Number(NumberFact::RecSuc)];
+const CONS_SUC_FACTS: &[Fact] = &[facts::REC_SUC];
 
 // The rest of a path has a smaller code than the path.
 const BELOW_CONS: &str = "\
@@ -424,12 +415,12 @@ const BELOW_CONS: &str = "\
 
 // The facts that it takes.
 const BELOW_CONS_FACTS: &[Fact] = &[
-    Fact::Order(OrderFact::LeSucSuc),
-    Fact::Path(PathFact::LeDouble),
-    Fact::Path(PathFact::ConsZero),
-    Fact::Order(OrderFact::LeTransitive),
-    Fact::Path(PathFact::ConsSuc),
-    Fact::Number(NumberFact::NumInduction),
+    facts::LE_SUC_SUC,
+    facts::LE_DOUBLE,
+    facts::CONS_ZERO,
+    facts::LE_TRANSITIVE,
+    facts::CONS_SUC,
+    facts::NUM_INDUCTION,
 ];
 
 // The path code of a step is not zero, which is that of the empty path.
@@ -453,10 +444,7 @@ const CONS_NOT_ZERO: &str = "\
 ";
 
 // The facts that it takes.
-const CONS_NOT_ZERO_FACTS: &[Fact] = &[
-    Fact::Path(PathFact::BelowCons),
-    Fact::Order(OrderFact::NoneBelowZero),
-];
+const CONS_NOT_ZERO_FACTS: &[Fact] = &[facts::BELOW_CONS, facts::NONE_BELOW_ZERO];
 
 // A path code that is one of a step 0 has the step 0 and the same rest.
 const CONS_STEP_ZERO: &str = "\
@@ -517,12 +505,12 @@ const CONS_STEP_ZERO: &str = "\
 
 // The facts that it takes.
 const CONS_STEP_ZERO_FACTS: &[Fact] = &[
-    Fact::Path(PathFact::ConsZero),
-    Fact::Number(NumberFact::SucInjective),
-    Fact::Path(PathFact::DoubleInjective),
-    Fact::Path(PathFact::ConsSuc),
-    Fact::Path(PathFact::DoubleNotOdd),
-    Fact::Number(NumberFact::NumInduction),
+    facts::CONS_ZERO,
+    facts::SUC_INJECTIVE,
+    facts::DOUBLE_INJECTIVE,
+    facts::CONS_SUC,
+    facts::DOUBLE_NOT_ODD,
+    facts::NUM_INDUCTION,
 ];
 
 // Where a path code of a step 0 is another code, the steps and the rests are equal.
@@ -549,7 +537,7 @@ const CONS_ZERO_INJECTIVE: &str = "\
 ";
 
 // The facts that it takes.
-const CONS_ZERO_INJECTIVE_FACTS: &[Fact] = &[Fact::Path(PathFact::ConsStepZero)];
+const CONS_ZERO_INJECTIVE_FACTS: &[Fact] = &[facts::CONS_STEP_ZERO];
 
 // Equal path codes have equal first steps and equal rests.
 const CONS_INJECTIVE: &str = "\
@@ -610,11 +598,11 @@ const CONS_INJECTIVE: &str = "\
 
 // The facts that it takes.
 const CONS_INJECTIVE_FACTS: &[Fact] = &[
-    Fact::Path(PathFact::ConsStepZero),
-    Fact::Path(PathFact::ConsSuc),
-    Fact::Path(PathFact::DoubleInjective),
-    Fact::Number(NumberFact::NumInduction),
-    Fact::Path(PathFact::ConsZeroInjective),
+    facts::CONS_STEP_ZERO,
+    facts::CONS_SUC,
+    facts::DOUBLE_INJECTIVE,
+    facts::NUM_INDUCTION,
+    facts::CONS_ZERO_INJECTIVE,
 ];
 
 // Twice the path code of a step is the path code of one.
@@ -647,7 +635,7 @@ const DOUBLE_IS_CODE: &str = "\
 ";
 
 // The facts that it takes.
-const DOUBLE_IS_CODE_FACTS: &[Fact] = &[Fact::Path(PathFact::ConsSuc)];
+const DOUBLE_IS_CODE_FACTS: &[Fact] = &[facts::CONS_SUC];
 
 // Each number is a path code.
 const PATH_CASES: &str = "\
@@ -709,12 +697,12 @@ const PATH_CASES: &str = "\
 
 // The facts that it takes.
 const PATH_CASES_FACTS: &[Fact] = &[
-    Fact::Order(OrderFact::StrongInduction),
-    Fact::Path(PathFact::DoubleZero),
-    Fact::Path(PathFact::DoubleIsCode),
-    Fact::Path(PathFact::BelowDouble),
-    Fact::Path(PathFact::ConsZero),
-    Fact::Path(PathFact::EvenOrOdd),
+    facts::STRONG_INDUCTION,
+    facts::DOUBLE_ZERO,
+    facts::DOUBLE_IS_CODE,
+    facts::BELOW_DOUBLE,
+    facts::CONS_ZERO,
+    facts::EVEN_OR_ODD,
 ];
 
 // Induction along path codes.
@@ -767,9 +755,9 @@ const PATH_INDUCTION: &str = "\
 
 // The facts that it takes.
 const PATH_INDUCTION_FACTS: &[Fact] = &[
-    Fact::Path(PathFact::BelowCons),
-    Fact::Path(PathFact::PathCases),
-    Fact::Order(OrderFact::StrongInduction),
+    facts::BELOW_CONS,
+    facts::PATH_CASES,
+    facts::STRONG_INDUCTION,
 ];
 
 // Recursion along path codes.
@@ -785,102 +773,46 @@ const PATH_RECURSION: &str = "\
 
 // The facts that it takes.
 const PATH_RECURSION_FACTS: &[Fact] = &[
-    Fact::Number(NumberFact::Recursion),
-    Fact::Path(PathFact::ConsNotZero),
-    Fact::Path(PathFact::ConsInjective),
-    Fact::Path(PathFact::PathInduction),
+    facts::RECURSION,
+    facts::CONS_NOT_ZERO,
+    facts::CONS_INJECTIVE,
+    facts::PATH_INDUCTION,
 ];
 
 // The definitions and the facts, in order.
 pub(crate) static STEPS: [Step; 22] = [
     Step::Constant(41),
+    Step::Prove(facts::DOUBLE_ZERO, DOUBLE_ZERO_FACTS, DOUBLE_ZERO),
+    Step::Prove(facts::DOUBLE_SUC, DOUBLE_SUC_FACTS, DOUBLE_SUC),
     Step::Prove(
-        Fact::Path(PathFact::DoubleZero),
-        DOUBLE_ZERO_FACTS,
-        DOUBLE_ZERO,
-    ),
-    Step::Prove(
-        Fact::Path(PathFact::DoubleSuc),
-        DOUBLE_SUC_FACTS,
-        DOUBLE_SUC,
-    ),
-    Step::Prove(
-        Fact::Path(PathFact::EvenOddSelector),
+        facts::EVEN_ODD_SELECTOR,
         EVEN_ODD_SELECTOR_FACTS,
         EVEN_ODD_SELECTOR,
     ),
+    Step::Prove(facts::DOUBLE_NOT_ODD, DOUBLE_NOT_ODD_FACTS, DOUBLE_NOT_ODD),
     Step::Prove(
-        Fact::Path(PathFact::DoubleNotOdd),
-        DOUBLE_NOT_ODD_FACTS,
-        DOUBLE_NOT_ODD,
-    ),
-    Step::Prove(
-        Fact::Path(PathFact::DoubleInjective),
+        facts::DOUBLE_INJECTIVE,
         DOUBLE_INJECTIVE_FACTS,
         DOUBLE_INJECTIVE,
     ),
-    Step::Prove(
-        Fact::Path(PathFact::DoubleIsZero),
-        DOUBLE_IS_ZERO_FACTS,
-        DOUBLE_IS_ZERO,
-    ),
-    Step::Prove(Fact::Path(PathFact::LeDouble), LE_DOUBLE_FACTS, LE_DOUBLE),
-    Step::Prove(
-        Fact::Path(PathFact::BelowDouble),
-        BELOW_DOUBLE_FACTS,
-        BELOW_DOUBLE,
-    ),
-    Step::Prove(
-        Fact::Path(PathFact::EvenOrOdd),
-        EVEN_OR_ODD_FACTS,
-        EVEN_OR_ODD,
-    ),
+    Step::Prove(facts::DOUBLE_IS_ZERO, DOUBLE_IS_ZERO_FACTS, DOUBLE_IS_ZERO),
+    Step::Prove(facts::LE_DOUBLE, LE_DOUBLE_FACTS, LE_DOUBLE),
+    Step::Prove(facts::BELOW_DOUBLE, BELOW_DOUBLE_FACTS, BELOW_DOUBLE),
+    Step::Prove(facts::EVEN_OR_ODD, EVEN_OR_ODD_FACTS, EVEN_OR_ODD),
     Step::Constant(42),
-    Step::Prove(Fact::Path(PathFact::ConsZero), CONS_ZERO_FACTS, CONS_ZERO),
-    Step::Prove(Fact::Path(PathFact::ConsSuc), CONS_SUC_FACTS, CONS_SUC),
+    Step::Prove(facts::CONS_ZERO, CONS_ZERO_FACTS, CONS_ZERO),
+    Step::Prove(facts::CONS_SUC, CONS_SUC_FACTS, CONS_SUC),
+    Step::Prove(facts::BELOW_CONS, BELOW_CONS_FACTS, BELOW_CONS),
+    Step::Prove(facts::CONS_NOT_ZERO, CONS_NOT_ZERO_FACTS, CONS_NOT_ZERO),
+    Step::Prove(facts::CONS_STEP_ZERO, CONS_STEP_ZERO_FACTS, CONS_STEP_ZERO),
     Step::Prove(
-        Fact::Path(PathFact::BelowCons),
-        BELOW_CONS_FACTS,
-        BELOW_CONS,
-    ),
-    Step::Prove(
-        Fact::Path(PathFact::ConsNotZero),
-        CONS_NOT_ZERO_FACTS,
-        CONS_NOT_ZERO,
-    ),
-    Step::Prove(
-        Fact::Path(PathFact::ConsStepZero),
-        CONS_STEP_ZERO_FACTS,
-        CONS_STEP_ZERO,
-    ),
-    Step::Prove(
-        Fact::Path(PathFact::ConsZeroInjective),
+        facts::CONS_ZERO_INJECTIVE,
         CONS_ZERO_INJECTIVE_FACTS,
         CONS_ZERO_INJECTIVE,
     ),
-    Step::Prove(
-        Fact::Path(PathFact::ConsInjective),
-        CONS_INJECTIVE_FACTS,
-        CONS_INJECTIVE,
-    ),
-    Step::Prove(
-        Fact::Path(PathFact::DoubleIsCode),
-        DOUBLE_IS_CODE_FACTS,
-        DOUBLE_IS_CODE,
-    ),
-    Step::Prove(
-        Fact::Path(PathFact::PathCases),
-        PATH_CASES_FACTS,
-        PATH_CASES,
-    ),
-    Step::Prove(
-        Fact::Path(PathFact::PathInduction),
-        PATH_INDUCTION_FACTS,
-        PATH_INDUCTION,
-    ),
-    Step::Prove(
-        Fact::Path(PathFact::PathRecursion),
-        PATH_RECURSION_FACTS,
-        PATH_RECURSION,
-    ),
+    Step::Prove(facts::CONS_INJECTIVE, CONS_INJECTIVE_FACTS, CONS_INJECTIVE),
+    Step::Prove(facts::DOUBLE_IS_CODE, DOUBLE_IS_CODE_FACTS, DOUBLE_IS_CODE),
+    Step::Prove(facts::PATH_CASES, PATH_CASES_FACTS, PATH_CASES),
+    Step::Prove(facts::PATH_INDUCTION, PATH_INDUCTION_FACTS, PATH_INDUCTION),
+    Step::Prove(facts::PATH_RECURSION, PATH_RECURSION_FACTS, PATH_RECURSION),
 ];

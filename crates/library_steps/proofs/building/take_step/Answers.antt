@@ -2,7 +2,7 @@ use Rattle.std.proofs.Common.{◌∙◌, sym, ap}
 use Rattle.std.proofs.lemmas.Result.{on_ok_weaker}
 use Rattle.library_steps.specs.Building.{defs_after, facts_after, facts_on}
 use Rattle.library_steps.proofs.Defined.{grows_keeps}
-use Rattle.library_steps.proofs.Taken.{constant_fits, type_fits, fact_fits, base_behind, base_same, premises_on, had_keeps, extends_itself}
+use Rattle.library_steps.proofs.Taken.{constant_fits, type_fits, fact_fits, premises_on, had_keeps, extends_itself}
 use Rattle.library_steps.proofs.building.take_step.Goals as goal
 
 -- ---- a constant
@@ -12,11 +12,6 @@ define_constant-requires-clause-so_far c = (constant_fits _ _ _ c.in-Constant.pl
 
 pub define_constant-requires-clause-constant : goal.define_constant-requires-clause-constant
 define_constant-requires-clause-constant c = (constant_fits _ _ _ c.in-Constant.place c.requires.fits c.in-Constant.is).1
-
-pub returns-in-Constant-clause-base : goal.returns-in-Constant-clause-base
-returns-in-Constant-clause-base c =
-    let fit = constant_fits _ _ _ c.in-Constant.place c.requires.fits c.in-Constant.is in
-    on_ok_weaker c.define_constant.result (λ new. base_behind _ c.in-Constant.place fit.1.above new) c.define_constant.ensures.made
 
 pub returns-in-Constant-clause-defs : goal.returns-in-Constant-clause-defs
 returns-in-Constant-clause-defs c =
@@ -37,8 +32,8 @@ returns-in-Constant-clause-keeps c = c.define_constant.ensures.keeps
 
 -- ---- a type
 
-pub define_type-requires-clause-base : goal.define_type-requires-clause-base
-define_type-requires-clause-base c = c.requires.base
+pub define_type-requires-clause-rules : goal.define_type-requires-clause-rules
+define_type-requires-clause-rules c = c.requires.rules
 
 pub define_type-requires-clause-shelf : goal.define_type-requires-clause-shelf
 define_type-requires-clause-shelf c = c.requires.shelf
@@ -48,11 +43,6 @@ define_type-requires-clause-so_far c = (type_fits _ _ _ c.in-NewType.place _ c.r
 
 pub define_type-requires-clause-new_type : goal.define_type-requires-clause-new_type
 define_type-requires-clause-new_type c = (type_fits _ _ _ c.in-NewType.place _ c.requires.fits c.in-NewType.is).1
-
-pub returns-in-NewType-clause-base : goal.returns-in-NewType-clause-base
-returns-in-NewType-clause-base c =
-    let fit = type_fits _ _ _ c.in-NewType.place _ c.requires.fits c.in-NewType.is in
-    on_ok_weaker c.define_type.result (λ new. base_behind _ c.in-NewType.place fit.1.above new) c.define_type.ensures.made
 
 pub returns-in-NewType-clause-defs : goal.returns-in-NewType-clause-defs
 returns-in-NewType-clause-defs c =
@@ -73,8 +63,8 @@ returns-in-NewType-clause-keeps c = c.define_type.ensures.keeps
 
 -- ---- a fact
 
-pub prove-requires-clause-base : goal.prove-requires-clause-base
-prove-requires-clause-base c = c.requires.base
+pub prove-requires-clause-rules : goal.prove-requires-clause-rules
+prove-requires-clause-rules c = c.requires.rules
 
 pub prove-requires-clause-shelf : goal.prove-requires-clause-shelf
 prove-requires-clause-shelf c = c.requires.shelf
@@ -84,10 +74,6 @@ prove-requires-clause-listed c = premises_on _ _ (fact_fits _ _ _ c.in-Prove.fac
 
 pub prove-requires-clause-proves : goal.prove-requires-clause-proves
 prove-requires-clause-proves c = (fact_fits _ _ _ c.in-Prove.fact _ _ c.requires.fits c.in-Prove.is).1
-
-pub returns-in-Prove-clause-base : goal.returns-in-Prove-clause-base
-returns-in-Prove-clause-base c =
-    on_ok_weaker c.prove.result (λ new. base_same _ _ c.requires.base c.prove.ensures.grows) c.prove.ensures.facts
 
 pub returns-in-Prove-clause-defs : goal.returns-in-Prove-clause-defs
 returns-in-Prove-clause-defs c =

@@ -2,14 +2,14 @@ use Rattle.std.proofs.Common.{refl, ap, ◌∙◌}
 use Rattle.std.proofs.lemmas.List.{take_all}
 use Rattle.library_steps.specs.Building.{facts_on, made, proved}
 use Rattle.library_steps.proofs.Defined.{keeps_itself, keeps_on}
-use Rattle.library_steps.proofs.Taken.{next_fits, defs_next, facts_next, extends_itself, extends_on}
+use Rattle.library_steps.proofs.Taken.{rules_kept, next_fits, defs_next, facts_next, extends_itself, extends_on}
 use Rattle.library_steps.proofs.building.take_steps.Goals as goal
 
 pub loop-i-init : goal.loop-i-init
-loop-i-init c = record { base = c.requires.base; defs = refl; facts = refl; shelf = c.requires.shelf; more = extends_itself _; keeps = keeps_itself _ }
+loop-i-init c = record { defs = refl; facts = refl; shelf = c.requires.shelf; more = extends_itself _; keeps = keeps_itself _ }
 
-pub take_step-requires-clause-base : goal.take_step-requires-clause-base
-take_step-requires-clause-base c = c.loop-i.invariant.base
+pub take_step-requires-clause-rules : goal.take_step-requires-clause-rules
+take_step-requires-clause-rules c = rules_kept c.requires.rules c.loop-i.invariant.keeps
 
 pub take_step-requires-clause-shelf : goal.take_step-requires-clause-shelf
 take_step-requires-clause-shelf c = c.loop-i.invariant.shelf
@@ -29,7 +29,6 @@ returns-in_err-take_step-clause-keeps c = keeps_on _ _ _ c.loop-i.invariant.keep
 
 pub loop-i-preserved : goal.loop-i-preserved
 loop-i-preserved c = record {
-  base = c.in_ok-take_step.ensures.base;
   defs = defs_next _ _ _ c.args.steps.now c.loop-i.i _ c.loop-i-test.true c.loop-i.invariant.defs c.in_ok-take_step.ensures.defs;
   facts = facts_next _ _ _ c.args.steps.now c.loop-i.i _ c.loop-i-test.true c.loop-i.invariant.facts c.in_ok-take_step.ensures.facts;
   shelf = c.take_step.ensures.shelf;

@@ -2,7 +2,8 @@ use Rattle.std.proofs.Common.{◌∙◌, refl}
 use Rattle.script_core.specs.Ready.{values}
 use Rattle.kernel_lines.proofs.Given.{grows_on}
 use Rattle.kernel_lines.proofs.Had.{had_last}
-use Rattle.script_core.proofs.TableLemmas.{base_on, typed_on, turn_fits, turn_rest, table_end}
+use Rattle.nd_rules.proofs.Keeping.{rules_grow}
+use Rattle.script_core.proofs.TableLemmas.{typed_on, turn_fits, turn_rest, table_end}
 use Rattle.script_core.proofs.run.run_lines.Goals as goal
 
 pub run_line-requires-clause-fits : goal.run_line-requires-clause-fits
@@ -11,7 +12,7 @@ run_line-requires-clause-fits c = turn_fits _ c.args.lines.now c.loop-line.line-
 pub loop-line-preserved : goal.loop-line-preserved
 loop-line-preserved c = record {
   grows = grows_on c.loop-line.invariant.grows c.run_line.ensures.grows;
-  base = base_on _ _ c.loop-line.invariant.base c.run_line.ensures.grows;
+  rules = rules_grow _ _ _ c.loop-line.invariant.rules c.run_line.ensures.grows;
   typed = typed_on _ _ c.loop-line.invariant.typed c.run_line.ensures.grows;
   ready = c.in_ok-run_line.ensures.ready;
   rest = c.loop-line.invariant.rest ∙ turn_rest c.args.lines.now c.loop-line.line-index _ c.loop-line-test.true c.run_line.ensures.grows c.in_ok-run_line.ensures.exact;

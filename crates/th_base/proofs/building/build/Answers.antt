@@ -1,12 +1,18 @@
 use Rattle.library_steps.proofs.Defined.{keeps_on}
-use Rattle.library_steps.proofs.Taken.{all_more, extends_on, both_on}
+use Rattle.library_steps.proofs.Taken.{rules_kept, all_more, extends_on, both_on}
 use Rattle.th_base.proofs.building.build.Goals as goal
+
+pub build_logic-requires-clause-rules : goal.build_logic-requires-clause-rules
+build_logic-requires-clause-rules c = c.requires.rules
 
 pub build_logic-requires-clause-defs : goal.build_logic-requires-clause-defs
 build_logic-requires-clause-defs c = c.requires.defs
 
 pub build_logic-requires-clause-shelf : goal.build_logic-requires-clause-shelf
 build_logic-requires-clause-shelf c = c.requires.shelf
+
+pub build_products-requires-clause-rules : goal.build_products-requires-clause-rules
+build_products-requires-clause-rules c = rules_kept c.requires.rules c.build_logic.ensures.keeps
 
 pub build_products-requires-clause-defs : goal.build_products-requires-clause-defs
 build_products-requires-clause-defs c = c.in_ok-build_logic.ensures.defs
@@ -16,6 +22,9 @@ build_products-requires-clause-logic_facts c = c.in_ok-build_logic.ensures.logic
 
 pub build_products-requires-clause-shelf : goal.build_products-requires-clause-shelf
 build_products-requires-clause-shelf c = c.build_logic.ensures.shelf
+
+pub build_sums-requires-clause-rules : goal.build_sums-requires-clause-rules
+build_sums-requires-clause-rules c = rules_kept (rules_kept c.requires.rules c.build_logic.ensures.keeps) c.build_products.ensures.keeps
 
 pub build_sums-requires-clause-defs : goal.build_sums-requires-clause-defs
 build_sums-requires-clause-defs c = c.in_ok-build_products.ensures.defs

@@ -1,6 +1,9 @@
 use Rattle.library_steps.proofs.Defined.{keeps_on}
-use Rattle.library_steps.proofs.Taken.{all_more, extends_on}
+use Rattle.library_steps.proofs.Taken.{rules_kept, all_more, extends_on}
 use Rattle.th_count.proofs.building.build.Goals as goal
+
+pub build_countable-requires-clause-rules : goal.build_countable-requires-clause-rules
+build_countable-requires-clause-rules c = c.requires.rules
 
 pub build_countable-requires-clause-defs : goal.build_countable-requires-clause-defs
 build_countable-requires-clause-defs c = c.requires.defs
@@ -16,6 +19,9 @@ build_countable-requires-clause-path_facts c = c.requires.path_facts
 
 pub build_countable-requires-clause-shelf : goal.build_countable-requires-clause-shelf
 build_countable-requires-clause-shelf c = c.requires.shelf
+
+pub build_csets-requires-clause-rules : goal.build_csets-requires-clause-rules
+build_csets-requires-clause-rules c = rules_kept c.requires.rules c.build_countable.ensures.keeps
 
 pub build_csets-requires-clause-defs : goal.build_csets-requires-clause-defs
 build_csets-requires-clause-defs c = c.in_ok-build_countable.ensures.defs

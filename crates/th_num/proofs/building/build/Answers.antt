@@ -1,6 +1,9 @@
 use Rattle.library_steps.proofs.Defined.{keeps_on}
-use Rattle.library_steps.proofs.Taken.{all_more, extends_on}
+use Rattle.library_steps.proofs.Taken.{rules_kept, all_more, extends_on}
 use Rattle.th_num.proofs.building.build.Goals as goal
+
+pub build_numbers-requires-clause-rules : goal.build_numbers-requires-clause-rules
+build_numbers-requires-clause-rules c = c.requires.rules
 
 pub build_numbers-requires-clause-defs : goal.build_numbers-requires-clause-defs
 build_numbers-requires-clause-defs c = c.requires.defs
@@ -10,6 +13,9 @@ build_numbers-requires-clause-base_facts c = c.requires.base_facts
 
 pub build_numbers-requires-clause-shelf : goal.build_numbers-requires-clause-shelf
 build_numbers-requires-clause-shelf c = c.requires.shelf
+
+pub build_paths-requires-clause-rules : goal.build_paths-requires-clause-rules
+build_paths-requires-clause-rules c = rules_kept c.requires.rules c.build_numbers.ensures.keeps
 
 pub build_paths-requires-clause-defs : goal.build_paths-requires-clause-defs
 build_paths-requires-clause-defs c = c.in_ok-build_numbers.ensures.defs

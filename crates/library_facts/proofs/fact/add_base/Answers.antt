@@ -5,7 +5,7 @@ use Rattle.hol_terms.specs.DefShape.{definition_of}
 use Rattle.hol_terms.specs.Base.{base_definitions}
 use Rattle.hol_terms.specs.Table.{introduces_new}
 use Rattle.stmt_core.proofs.BaseSteps.{base_new, base_predicate, next_signature}
-use Rattle.library_facts.proofs.facts.add_base.Goals as goal
+use Rattle.library_facts.proofs.fact.add_base.Goals as goal
 
 pub add_def-requires-clause-new : goal.add_def-requires-clause-new
 add_def-requires-clause-new c =
