@@ -10,6 +10,7 @@ where a case failed, where a case has no answer, or where an answer has no case.
 It uses the standard library alone."""
 
 import concurrent.futures
+import functools
 import os
 import pathlib
 import subprocess
@@ -80,6 +81,12 @@ def call(program, mode, text):
     return ran.returncode, ran.stdout, ran.stderr
 
 
+@functools.lru_cache(maxsize=32)
+def replay(program, log):
+    """What `replay` does with a log. Theories that are refused by one test have one log, which is replayed once."""
+    return call(program, "replay", log)
+
+
 def expect(what, ran, want):
     """Compares a run's status, output and standard error with what they are to be."""
     (status, out, err), (want_status, want_out, want_err) = ran, want
@@ -118,7 +125,7 @@ def theory_case(program, name):
         raise Fault("log: it does not begin with `hbnf-log 1` and end with a newline")
     last = b"stop %d %s" % (len(lines) - 1, last_line(answer).partition(b" ")[2]) if is_refused else b"end %d" % (len(lines) - 1)
     differ("log, last line", lines[-1], last)
-    expect("replay of its log", call(program, "replay", log), (0, answer, b""))
+    expect("replay of its log", replay(program, log), (0, answer, b""))
     if is_refused:
         return
     cut = b"".join(line + b"\n" for line in lines[:-1])
