@@ -1,6 +1,6 @@
 -- The facts that a declared type shares with every type that has free constructors: on its constructors, its case function, its
 -- discriminators and its selectors. In the comments T is the type, C and D are constructors of it, and xs are the arguments of one.
-use Rattle.std.specs.Prelude.{ℕ, ◌+◌, Bool, false, List, [], ◌∷◌, ◌++◌, map, flat_map, Option, Some, None, unwrap_or, is_some, if◌then◌else◌, bytes_eq, codes}
+use Rattle.std.specs.Prelude.{ℕ, ◌+◌, ◌==◌, ◌&&◌, not, length, Bool, false, List, [], ◌∷◌, ◌++◌, map, flat_map, Option, Some, None, unwrap_or, is_some, if◌then◌else◌, bytes_eq, codes}
 use Rattle.std.specs.List.{list_all}
 use Rattle.hol_terms.specs.Name.{Name}
 use Rattle.hol_terms.specs.Tm.{Tm, FreeVar, tm_free}
@@ -8,7 +8,7 @@ use Rattle.hol_terms.specs.Notation.{◌⇒◌, ◌·◌}
 use Rattle.hol_terms.specs.Definition.{bool_ty}
 use Rattle.stmt_core.specs.Formulas.{conj_of, imp_of, all_of}
 use Rattle.decl_core.specs.Declaration.{Arg, Ctor, Decl, type_of, arg_types}
-use Rattle.decl_core.specs.Statements.{Fact, ◌≐◌, ◌⟹◌, not_of, each_from, numbered, variables, variable, frees, function_ty, applied, call, equations, result_ty}
+use Rattle.decl_core.specs.Statements.{Fact, when, for_some, ◌≐◌, ◌⟹◌, not_of, each_from, flat_map_from, numbered, variables, variable, frees, function_ty, applied, call, equations, result_ty}
 
 -- ---- what the statements speak of
 
@@ -18,6 +18,9 @@ xs c = variables (codes "x") (arg_types c)
 
 abbrev pub ys : Ctor → List FreeVar
 ys c = variables (codes "y") (arg_types c)
+
+abbrev pub has_args : Ctor → Bool
+has_args c = not (length c.args == 0)
 
 -- `C ts`
 abbrev pub value : Decl → Ctor → List Tm → Tm
@@ -66,12 +69,11 @@ abbrev pub inject : Decl → Ctor → Tm
 inject d c = all_of (xs c) (all_of (ys c) ((of_xs d c ≐ of_ys d c) ≐ conj_of (equations (frees (xs c)) (frees (ys c)))))
 
 -- T.inject.C for each C with arguments
-abbrev pub inject_facts_of : Decl → List Arg → Ctor → List Fact
-inject_facts_of d [] c = []
-inject_facts_of d (a ∷ rest) c = (d.name ++ codes ".inject." ++ c.name, inject d c) ∷ []
+abbrev pub inject_fact : Decl → Ctor → Fact
+inject_fact d c = (d.name ++ codes ".inject." ++ c.name, inject d c)
 
 abbrev pub inject_facts : Decl → List Fact
-inject_facts d = flat_map (λ c. inject_facts_of d c.args c) d.ctors
+inject_facts d = flat_map (λ c. when (has_args c) (inject_fact d c)) d.ctors
 
 -- ---- 2. Values of different constructors are different
 
@@ -80,9 +82,12 @@ abbrev pub distinct : Decl → Ctor → Ctor → Tm
 distinct d c e = all_of (xs c) (all_of (ys e) (not_of (of_xs d c ≐ of_ys d e)))
 
 -- T.distinct.C.D for each C and each D behind it
+abbrev pub distinct_fact : Decl → Ctor → Ctor → Fact
+distinct_fact d c e = (d.name ++ codes ".distinct." ++ c.name ++ codes "." ++ e.name, distinct d c e)
+
 abbrev pub distinct_from : Decl → List Ctor → List Fact
 distinct_from d [] = []
-distinct_from d (c ∷ cs) = map (λ e. (d.name ++ codes ".distinct." ++ c.name ++ codes "." ++ e.name, distinct d c e)) cs ++ distinct_from d cs
+distinct_from d (c ∷ cs) = map (distinct_fact d c) cs ++ distinct_from d cs
 
 abbrev pub distinct_facts : Decl → List Fact
 distinct_facts d = distinct_from d d.ctors
@@ -107,8 +112,11 @@ abbrev pub case_at : Decl → ℕ → Ctor → Tm
 case_at d k c = all_of (fs d) (all_of (xs c) (case_of d (of_xs d c) ≐ branch_xs k c))
 
 -- T.case.C for each C
+abbrev pub case_fact : Decl → ℕ → Ctor → Fact
+case_fact d k c = (d.name ++ codes ".case." ++ c.name, case_at d k c)
+
 abbrev pub case_facts : Decl → List Fact
-case_facts d = each_from (λ k c. (d.name ++ codes ".case." ++ c.name, case_at d k c)) 1 d.ctors
+case_facts d = each_from (case_fact d) 1 d.ctors
 
 -- ---- 5. What holds of a case function's result holds in each case
 
@@ -130,8 +138,11 @@ abbrev pub disc : Decl → Ctor → Ctor → Tm
 disc d c e = all_of (xs e) (if bytes_eq c.name e.name then is_of d c (of_xs d e) else not_of (is_of d c (of_xs d e)))
 
 -- T.disc.C.D for all C and D
+abbrev pub disc_fact : Decl → Ctor → Ctor → Fact
+disc_fact d c e = (d.name ++ codes ".disc." ++ c.name ++ codes "." ++ e.name, disc d c e)
+
 abbrev pub disc_facts : Decl → List Fact
-disc_facts d = flat_map (λ c. map (λ e. (d.name ++ codes ".disc." ++ c.name ++ codes "." ++ e.name, disc d c e)) d.ctors) d.ctors
+disc_facts d = flat_map (λ c. map (disc_fact d c) d.ctors) d.ctors
 
 -- ---- 7. A selector gives its argument
 
@@ -140,16 +151,14 @@ abbrev pub sel : Decl → Ctor → ℕ → Arg → Name → Tm
 sel d c k a s = all_of (xs c) (call s (of_xs d c ∷ []) a.ty ≐ tm_free (numbered (codes "x") k a.ty))
 
 -- T.sel.s for each selector s
-abbrev pub sel_facts_of : Decl → Ctor → ℕ → Arg → Option Name → List Fact
-sel_facts_of d c k a None = []
-sel_facts_of d c k a (Some s) = (d.name ++ codes ".sel." ++ s, sel d c k a s) ∷ []
+abbrev pub sel_fact : Decl → Ctor → ℕ → Arg → Name → Fact
+sel_fact d c k a s = (d.name ++ codes ".sel." ++ s, sel d c k a s)
 
-abbrev pub sel_facts_from : Decl → Ctor → ℕ → List Arg → List Fact
-sel_facts_from d c k [] = []
-sel_facts_from d c k (a ∷ rest) = sel_facts_of d c k a a.selector ++ sel_facts_from d c (k + 1) rest
+abbrev pub sel_facts_of : Decl → Ctor → ℕ → Arg → List Fact
+sel_facts_of d c k a = for_some (sel_fact d c k a) a.selector
 
 abbrev pub sel_facts : Decl → List Fact
-sel_facts d = flat_map (λ c. sel_facts_from d c 1 c.args) d.ctors
+sel_facts d = flat_map (λ c. flat_map_from (sel_facts_of d c) 1 c.args) d.ctors
 
 -- ---- 8. A value is made again of what its selectors give
 
@@ -161,15 +170,14 @@ abbrev pub collapse : Decl → Ctor → Tm
 collapse d c = all_of (t d ∷ []) (is_of d c (tm_free (t d)) ⟹ (value d c (map (selection d) c.args) ≐ tm_free (t d)))
 
 -- T.collapse.C for each C with arguments that all have selectors
-abbrev pub has_selectors : List Arg → Bool
-has_selectors [] = false
-has_selectors (a ∷ rest) = list_all (λ b. is_some b.selector) (a ∷ rest)
+abbrev pub have_selectors : List Arg → Bool
+have_selectors args = list_all (λ a. is_some a.selector) args
 
-abbrev pub collapse_facts_of : Decl → Ctor → List Fact
-collapse_facts_of d c = if has_selectors c.args then (d.name ++ codes ".collapse." ++ c.name, collapse d c) ∷ [] else []
+abbrev pub collapse_fact : Decl → Ctor → Fact
+collapse_fact d c = (d.name ++ codes ".collapse." ++ c.name, collapse d c)
 
 abbrev pub collapse_facts : Decl → List Fact
-collapse_facts d = flat_map (collapse_facts_of d) d.ctors
+collapse_facts d = flat_map (λ c. when (has_args c && have_selectors c.args) (collapse_fact d c)) d.ctors
 
 -- ---- all of them, in this order
 abbrev pub free_constructor_facts : Decl → List Fact

@@ -1,5 +1,5 @@
 -- Words that facts are stated in.
-use Rattle.std.specs.Prelude.{ℕ, ◌+◌, List, [], ◌∷◌, ◌++◌, map, decimal, codes}
+use Rattle.std.specs.Prelude.{ℕ, ◌+◌, Bool, Option, Some, None, if◌then◌else◌, List, [], ◌∷◌, ◌++◌, map, decimal, codes}
 use Rattle.std.specs.Coded.{Coded, coded×}
 use Rattle.hol_terms.specs.Name.{Name}
 use Rattle.hol_terms.specs.Ty.{Ty, ty_var}
@@ -18,6 +18,15 @@ Fact = Name × Tm
 abbrev pub fact_code : Coded Fact
 fact_code = coded× name_code tm_code
 
+-- one element where the test holds, and none else
+abbrev pub when : {A : Type 0} → Bool → A → List A
+when test x = if test then x ∷ [] else []
+
+-- what f gives for a value that is there
+abbrev pub for_some : {A B : Type 0} → (A → B) → Option A → List B
+for_some f None = []
+for_some f (Some x) = f x ∷ []
+
 infixl 30 ◌≐◌
 infixr 20 ◌⟹◌
 -- an equation, an implication and a negation of HOL
@@ -30,10 +39,14 @@ p ⟹ q = imp_of (p ∷ []) q
 abbrev pub not_of : Tm → Tm
 not_of p = const_not · p
 
--- what f gives for each element with its number, from k
+-- what f gives for each element with its number, from k; in the second an element may give several
 abbrev pub each_from : {A B : Type 0} → (ℕ → A → B) → ℕ → List A → List B
 each_from f k [] = []
 each_from f k (x ∷ xs) = f k x ∷ each_from f (k + 1) xs
+
+abbrev pub flat_map_from : {A B : Type 0} → (ℕ → A → List B) → ℕ → List A → List B
+flat_map_from f k [] = []
+flat_map_from f k (x ∷ xs) = f k x ++ flat_map_from f (k + 1) xs
 
 -- the k-th variable of a letter, as x1, x2
 abbrev pub numbered : Name → ℕ → Ty → FreeVar
