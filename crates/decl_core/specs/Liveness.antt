@@ -12,11 +12,17 @@ use Rattle.decl_core.specs.Functors.{Lives, lives_of, same_type}
 abbrev pub is_one_of : Name → List Name → Bool
 is_one_of n names = list_any (bytes_eq n) names
 
+abbrev pub basic : List Name
+basic = codes "unit" ∷ codes "bool" ∷ codes "num" ∷ []
+
+abbrev pub of_two : List Name
+of_two = codes "prod" ∷ codes "sum" ∷ []
+
 abbrev mutual
   pub is_countable : Ty → Bool
   is_countable (ty_var n) = false
-  is_countable (ty_app c no_tys) = is_one_of c (codes "unit" ∷ codes "bool" ∷ codes "num" ∷ [])
-  is_countable (ty_app c (more_tys a ts)) = is_one_of c (codes "prod" ∷ codes "sum" ∷ []) && is_countable a && are_countable ts
+  is_countable (ty_app c no_tys) = is_one_of c basic
+  is_countable (ty_app c (more_tys a ts)) = is_one_of c of_two && (is_countable a && are_countable ts)
 
   pub are_countable : Tys → Bool
   are_countable no_tys = true
