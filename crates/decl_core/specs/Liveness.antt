@@ -5,7 +5,7 @@ use Rattle.hol_terms.specs.Name.{Name}
 use Rattle.hol_terms.specs.Ty.{Ty, ty_var, ty_app, Tys, no_tys, more_tys}
 use Rattle.hol_terms.specs.Typing.{fun_name}
 use Rattle.hol_terms.specs.TyVars.{occurs}
-use Rattle.decl_core.specs.Declaration.{Decl, type_of, arg_types}
+use Rattle.decl_core.specs.Declaration.{Ctor, Decl, type_of}
 use Rattle.decl_core.specs.Functors.{Lives, lives_of, same_type}
 
 -- ---- countable types: `unit`, `bool`, `num`, and products and sums of countable types
@@ -44,9 +44,15 @@ abbrev mutual
   dead_in_any ls group p [] (more_tys a ts) = false
   dead_in_any ls group p (live ∷ lives) (more_tys a ts) = (if live then dead_in ls group p a else occurs p a) || dead_in_any ls group p lives ts
 
--- the parameter is dead where it is so in an argument of any constructor of the group
+abbrev pub dead_in_ctor : Lives → List Ty → Name → Ctor → Bool
+dead_in_ctor ls group p c = list_any (λ a. dead_in ls group p a.ty) c.args
+
+abbrev pub dead_in_decl : Lives → List Ty → Name → Decl → Bool
+dead_in_decl ls group p d = list_any (dead_in_ctor ls group p) d.ctors
+
+-- the parameter is live where it is in no argument of a constructor of the group so
 abbrev pub is_live : Lives → List Decl → Name → Bool
-is_live ls ds p = not (list_any (λ d. list_any (λ c. list_any (dead_in ls (map type_of ds) p) (arg_types c)) d.ctors) ds)
+is_live ls ds p = not (list_any (dead_in_decl ls (map type_of ds) p) ds)
 
 -- with the types of a group
 abbrev pub with_group : Lives → List Decl → Lives
