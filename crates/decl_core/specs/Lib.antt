@@ -1,0 +1,9 @@
+pub mod Declaration
+pub mod Statements
+pub mod FreeConstructors
+pub mod Functors
+pub mod Liveness
+pub mod FunctorFacts
+pub mod Induction
+pub mod Recursion
+pub mod CharacteristicList

@@ -1,0 +1,4 @@
+pub mod Applied
+pub mod Numbered
+pub mod Branches
+pub mod FormulaLists

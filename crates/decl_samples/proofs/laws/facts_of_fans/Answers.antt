@@ -1,0 +1,8 @@
+use Rattle.std.proofs.Common.{refl}
+use Rattle.std.specs.Fmt.{digits}
+use Rattle.decl_samples.specs.Fans.{lines}
+use Rattle.decl_samples.proofs.laws.facts_of_fans.Goals as goal
+
+pub returns : goal.returns
+unfolding lines digits
+returns c = refl

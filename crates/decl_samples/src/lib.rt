@@ -1,0 +1,4 @@
+//! Samples of what declarations give.
+#![tactic(auto)]
+
+pub mod laws;
