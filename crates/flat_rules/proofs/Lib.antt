@@ -6,3 +6,4 @@ pub mod Sides
 pub mod Abstracting
 pub mod RuleSteps
 pub mod DefinitionSteps
+pub mod TermWalks

@@ -57,7 +57,7 @@ mutual
   seen_later (ty_var n) s u g h = g (ty_var n) h
   seen_later (ty_app n ts) s u g h = all_seen_later ts s u g h
 
-  all_seen_later : (ts : Tys) (s u : List Ty) → Gains s u → AreSeen s ts → AreSeen u ts
+  pub all_seen_later : (ts : Tys) (s u : List Ty) → Gains s u → AreSeen s ts → AreSeen u ts
   all_seen_later no_tys s u g h = tt
   all_seen_later (more_tys t ts) s u g h = (seen_later t s u g h.0, all_seen_later ts s u g h.1)
 
