@@ -7,3 +7,4 @@ pub mod Abstracting
 pub mod RuleSteps
 pub mod DefinitionSteps
 pub mod TermWalks
+pub mod Within

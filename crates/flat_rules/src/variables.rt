@@ -1,14 +1,15 @@
 //! The type variables of terms.
 
 ghost use Rattle.std.specs.Prelude.{◌≡◌, [], IfOk, OnOk};
-ghost use Rattle.hol_terms.specs.TyVars.{tm_ty_vars};
-ghost use Rattle.flat_terms.specs.Plain.{HasTypes, HasTerm, types_of, term_of};
+ghost use Rattle.std.specs.List.{list_all};
+ghost use Rattle.hol_terms.specs.TyVars.{is_among, tm_ty_vars, tm_within};
+ghost use Rattle.flat_terms.specs.Plain.{HasType, HasTypes, HasTerm, type_of, types_of, term_of};
 ghost use Rattle.flat_walks.specs.Lacks.{IsAdded};
 ghost use Rattle.flat_signatures.specs.Reads.{AreTypeNumbers};
 ghost use Rattle.flat_signatures.specs.Walked.{AllWalked};
 ghost use Rattle.flat_rules.specs.WalkedTerms.{AllTermsWalked};
 
-use flat_signatures::variables::{add_variables, add_variables_of};
+use flat_signatures::variables::{add_variables, add_variables_of, type_variables};
 use flat_terms::nodes::{TermId, TermView, TypeId};
 use flat_terms::tables::Tables;
 use indexmap::IndexSet;
@@ -28,6 +29,37 @@ pub fn term_type_variables(
     let mut terms = IndexSet::new(alloc);
     add_term_variables(tables, &mut seen, &mut types, &mut terms, term)?;
     Ok(seen)
+}
+
+/// Whether each type variable of a term occurs in a type.
+pub fn is_within(
+    tables: &Tables,
+    alloc: Global,
+    term: TermId,
+    ty: TypeId,
+) -> Result<bool, AllocError>
+    requires term { HasTerm tables.now term }
+    requires ty { HasType tables.now ty }
+    ensures { IfOk result (λ b. b ≡ tm_within (term_of tables.now term) (type_of tables.now ty)) }
+{
+    let variables = term_type_variables(tables, alloc, term)?;
+    let own = type_variables(tables, alloc, ty)?;
+    Ok(are_among(tables, variables.as_slice(), &own))
+}
+
+/// Whether each of the types is in the set.
+fn are_among(tables: &Tables, types: &[TypeId], set: &IndexSet<TypeId>) -> bool
+    requires types { HasTypes tables.now types.now }
+    requires set { HasTypes tables.now set.now.keys }
+    ensures { result ≡ list_all (λ v. is_among v (types_of tables.now set.now.keys)) (types_of tables.now types.now) }
+{
+    tables.entries_once();
+    for ty in types {
+        if !set.contains(ty) {
+            return false;
+        }
+    }
+    true
 }
 
 /// Adds a term's type variables that weren't seen before, beside types and terms of which all were.
