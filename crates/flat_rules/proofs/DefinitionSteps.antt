@@ -1,22 +1,23 @@
 -- The sequents of definitions, a step at a time.
-use Rattle.std.proofs.Common.{◌≡◌, List, [], ◌∷◌, ◌++◌, codes, ap, sym, subst, ◌∙◌}
+use Rattle.std.proofs.Common.{◌≡◌, Result, Ok, Err, IfOk, OnErr, List, [], ◌∷◌, ◌++◌, codes, ap, sym, subst, ◌∙◌}
 use Rattle.hol_terms.specs.Name.{Name}
-use Rattle.hol_terms.specs.Ty.{Ty}
-use Rattle.hol_terms.specs.Tm.{Tm, tm_comb}
+use Rattle.hol_terms.specs.Ty.{Ty, ty_app, tys}
+use Rattle.hol_terms.specs.Tm.{Tm, tm_comb, tm_const}
 use Rattle.hol_terms.specs.Typing.{tm_type, fun_ty, range_ty, domain_ty}
-use Rattle.hol_terms.specs.TyVars.{own_const}
+use Rattle.hol_terms.specs.TyVars.{ty_vars, tm_ty_vars, own_const}
 use Rattle.hol_terms.specs.Sequent.{seq, eq_tm}
 use Rattle.hol_terms.specs.Definition.{bool_ty, type_def, new_type}
 use Rattle.hol_terms.specs.Proves.{abs_rep, rep_abs}
 use Rattle.flat_terms.specs.declared.nodes.NameId.{NameId}
 use Rattle.flat_terms.specs.declared.nodes.TypeId.{TypeId}
 use Rattle.flat_terms.specs.declared.nodes.TermId.{TermId}
-use Rattle.flat_terms.specs.Plain.{PlainTables, HasName, HasTerm, name_of, type_of, term_of, IsTermAdded}
+use Rattle.flat_terms.specs.Plain.{PlainTables, HasName, HasTerm, name_of, type_of, types_of, term_of, IsTypeAdded, IsTermAdded}
 use Rattle.flat_walks.specs.Number.{IsNumber}
-use Rattle.flat_walks.proofs.Steps.{added_is}
+use Rattle.flat_walks.proofs.Steps.{added_has, added_is}
 use Rattle.flat_instances.specs.Types.{IsTypeNumber}
 use Rattle.flat_instances.specs.TablesGrow.{TablesGrow}
-use Rattle.flat_instances.proofs.TablesGrow.{tables_grow_further, tables_grow_by_term}
+use Rattle.flat_instances.proofs.Growth.{type_number_added}
+use Rattle.flat_instances.proofs.TablesGrow.{tables_grow_further, tables_grow_same, tables_grow_by_term}
 use Rattle.flat_rules.specs.declared.sequent.FlatSequent.{FlatSequent}
 use Rattle.flat_rules.specs.declared.definitions.Bridge.{Bridge}
 use Rattle.flat_rules.specs.Sequents.{HasTerms, terms_of, sequent_of, HasSequent}
@@ -125,3 +126,21 @@ type_said s t u w n p first last b q r hp g i h nf k nl eq cq er cr =
     two : eq_tm (tm_comb (term_of u p) (old_variable (type_of u b.old_type))) (there_and_back (term_of u b.rep) (term_of u b.abs) (old_variable (type_of u b.old_type))) ≡ rep_abs n (term_of s p)
     two = λ j. let r = old_variable ((h.same_type b.old_type i.old_type.has ∙ i.old_type.tree) j) in
         eq_tm (tm_comb ((h.same_term p (g.has_term p hp) ∙ g.same_term p hp) j) r) (there_and_back ((h.same_term b.rep i.rep.has ∙ i.rep.tree) j) ((h.same_term b.abs i.abs.has ∙ i.abs.tree) j) r)
+
+-- ---- an entry over the type variables that were collected
+
+pub grows_by_term : {E : Type 0} (t u : PlainTables) (x : Tm) (r : Result TermId E) → IfOk r (λ n. IsTermAdded t u n x) → OnErr r (u ≡ t) → TablesGrow t u
+grows_by_term t u x (Ok n) a e = tables_grow_by_term t u n x a
+grows_by_term t u x (Err d) a e = tables_grow_same t u e
+
+-- a constant at the variables of its type
+pub own_number : {E : Type 0} (t u : PlainTables) (c : NameId) (ty : TypeId) (args : List TypeId) (r : Result TermId E) → types_of t args ≡ ty_vars (type_of t ty) [] → IfOk r (λ n. IsTermAdded t u n (tm_const (name_of t c) (types_of t args) (type_of t ty)))
+    → IfOk r (λ n. IsNumber u n (own_const (name_of t c) (type_of t ty)))
+own_number t u c ty args (Ok n) e a = record { has = added_has t u n _ a; tree = added_is t u n _ a ∙ ap (λ vs. tm_const (name_of t c) vs (type_of t ty)) e }
+own_number t u c ty args (Err d) e a = tt
+
+-- a new type at the variables of its predicate
+pub new_number : {E : Type 0} (t u : PlainTables) (c : NameId) (p : Tm) (args : List TypeId) (r : Result TypeId E) → types_of t args ≡ tm_ty_vars p [] → IfOk r (λ n. IsTypeAdded t u n (ty_app (name_of t c) (tys (types_of t args))))
+    → IfOk r (λ n. IsTypeNumber u n (new_type (name_of t c) p))
+new_number t u c p args (Ok n) e a = let made = type_number_added t u n (ty_app (name_of t c) (tys (types_of t args))) a in record { has = made.has; tree = made.tree ∙ ap (λ vs. ty_app (name_of t c) (tys vs)) e }
+new_number t u c p args (Err d) e a = tt

@@ -6,3 +6,5 @@ pub mod Sides
 pub mod Abstracting
 pub mod RuleSteps
 pub mod DefinitionSteps
+pub mod TermWalks
+pub mod Within

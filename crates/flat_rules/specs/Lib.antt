@@ -4,3 +4,4 @@ pub mod Places
 pub mod Redexes
 pub mod Said
 pub mod Bridges
+pub mod WalkedTerms

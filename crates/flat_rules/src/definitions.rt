@@ -80,7 +80,7 @@ fn own_constant(
     ensures ok { IfOk result (λ r. IsNumber tables.new r (own_const (name_of tables.old name) (type_of tables.old ty))) }
 {
     let args = type_variables(tables, alloc, ty)?;
-    tables.constant(alloc, name, &args, ty)
+    tables.constant(alloc, name, args.as_slice(), ty)
 }
 
 /// What the definition of a type says of both constants between the new type and the old one. After want of memory the tables may
@@ -156,7 +156,7 @@ pub fn make_new_type(
     ensures ok { IfOk result (λ t. IsTypeNumber tables.new t (new_type (name_of tables.old name) (term_of tables.old predicate))) }
 {
     let parameters = term_type_variables(tables, alloc, predicate)?;
-    tables.type_application(alloc, name, &parameters)
+    tables.type_application(alloc, name, parameters.as_slice())
 }
 
 /// The number of the constant of a name with an end, a function from one type to another. After want of memory the tables may have

@@ -4,6 +4,7 @@ pub mod Signatures
 pub mod Numbers
 pub mod OverSteps
 pub mod VariableSteps
+pub mod Walks
 pub mod PairSteps
 pub mod ConstantSteps
 pub mod TypeSteps

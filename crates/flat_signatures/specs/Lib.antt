@@ -4,3 +4,4 @@ pub mod Reads
 pub mod Starting
 pub mod Over
 pub mod Behind
+pub mod Walked
