@@ -2,7 +2,7 @@
 use Rattle.std.proofs.Common.{◌≡◌, true, false, Bool, List, [], ◌∷◌, refl, ap, sym, ◌∙◌, subst}
 use Rattle.hol_terms.specs.Ty.{Ty}
 use Rattle.hol_terms.specs.Tm.{Tm, tm_free, tm_comb, tm_abs, FreeVar}
-use Rattle.hol_terms.specs.Typing.{tm_type, range_ty, domain_ty}
+use Rattle.hol_terms.specs.Typing.{tm_type, range_ty}
 use Rattle.hol_terms.specs.Notation.{◌⇒◌}
 use Rattle.hol_terms.specs.Opening.{body_of}
 use Rattle.hol_terms.specs.Binding.{tm_bind, tm_inst, has_free}

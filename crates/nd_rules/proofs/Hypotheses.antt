@@ -1,5 +1,5 @@
 -- Hypotheses that come together.
-use Rattle.std.proofs.Common.{◌≡◌, ◌⊎◌, ◌↔◌, inl, inr, ⊎_elim, List, [], ◌∷◌, Contains, refl, ap, arith}
+use Rattle.std.proofs.Common.{◌≡◌, inl, inr, ⊎_elim, List, [], ◌∷◌, refl, ap, arith}
 use Rattle.std.specs.declared.cmp.Ordering.{Ordering}
 use Rattle.std.specs.declared.cmp.Ordering.TheVariants.{Less, Equal, Greater}
 use Rattle.hol_terms.specs.Tm.{Tm}
@@ -10,7 +10,7 @@ use Rattle.hol_terms.specs.Rules.{same, keep_if, without}
 use Rattle.hol_terms.specs.Proves.{IsDerivable}
 use Rattle.hol_terms.proofs.Same.{same_refl}
 use Rattle.hol_kernel.specs.Ascending.{Ascends}
-use Rattle.hol_kernel.proofs.Ascending.{union_ascends, without_ascends, proved_ascends}
+use Rattle.hol_kernel.proofs.Ascending.{union_ascends, proved_ascends}
 use Rattle.hol_kernel.proofs.Members.{union_has, without_has, same_list}
 
 pub ascends : {ds : List Definition} {a : Sequent} → IsDerivable ds a → Ascends a.hyps

@@ -1,14 +1,13 @@
 -- What the rules' tests tell, and what their tables need.
-use Rattle.std.proofs.Common.{◌≡◌, true, false, Bool, List, [], ◌∷◌, Option, Some, IsSome, refl, ap, sym, ◌∙◌, subst}
+use Rattle.std.proofs.Common.{◌≡◌, true, false, Bool, List, [], Some, refl, ap, sym, ◌∙◌, subst}
 use Rattle.hol_terms.specs.Ty.{Ty}
 use Rattle.hol_terms.specs.Tm.{Tm, tm_comb, tm_abs}
 use Rattle.hol_terms.specs.Opening.{body_of}
-use Rattle.hol_terms.specs.Notation.{◌·◌}
-use Rattle.hol_terms.specs.Typing.{tm_type, fun_ty, domain_ty, range_ty}
+use Rattle.hol_terms.specs.Typing.{tm_type, domain_ty, range_ty}
 use Rattle.hol_terms.specs.Signature.{Signature, IsOver}
-use Rattle.hol_terms.specs.Definition.{Definition, bool_ty, signature_of}
+use Rattle.hol_terms.specs.Definition.{bool_ty, signature_of}
 use Rattle.hol_terms.specs.Sequent.{Sequent, IsEq, seq, union, eq_tm, left_of, argument}
-use Rattle.hol_terms.specs.Rules.{if_so, both, same, same_ty, function, is_equation, without}
+use Rattle.hol_terms.specs.Rules.{both, same, same_ty, function, is_equation, without}
 use Rattle.hol_terms.specs.Logic.{const_T, const_F}
 use Rattle.hol_terms.specs.Proves.{IsDerivable}
 use Rattle.hol_terms.proofs.Same.{same-is, same_ty-from}

@@ -1,5 +1,5 @@
 -- What the rules keep, and a kernel that has it.
-use Rattle.std.specs.Prelude.{◌≡◌, List, [], ◌∷◌, ◌++◌, Option, Some}
+use Rattle.std.specs.Prelude.{List, [], ◌∷◌, ◌++◌, Option, Some}
 use Rattle.std.specs.Borrow.{Bor}
 use Rattle.hol_terms.specs.Sequent.{Sequent}
 use Rattle.hol_kernel.specs.State.{State, Theorem}

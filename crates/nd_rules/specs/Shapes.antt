@@ -7,7 +7,7 @@ use Rattle.hol_terms.specs.Opening.{body_of}
 use Rattle.hol_terms.specs.Typing.{tm_type, fun_ty}
 use Rattle.hol_terms.specs.Signature.{Signature, IsOver}
 use Rattle.hol_terms.specs.Definition.{bool_ty}
-use Rattle.hol_terms.specs.Sequent.{eq_tm, left_of, argument}
+use Rattle.hol_terms.specs.Sequent.{left_of, argument}
 use Rattle.hol_terms.specs.Rules.{function}
 
 -- `o s`, where o takes a truth value

@@ -1,6 +1,3 @@
-use Rattle.std.proofs.Common.{[], ap, sym, ◌∙◌, subst}
-use Rattle.hol_terms.specs.Typing.{tm_type, domain_ty}
-use Rattle.hol_terms.specs.Notation.{◌⇒◌}
 use Rattle.nd_rules.proofs.Shapes.{predicate_is}
 use Rattle.nd_rules.proofs.operands.predicate.Goals as goal
 

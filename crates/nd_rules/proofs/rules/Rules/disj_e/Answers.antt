@@ -1,11 +1,7 @@
-use Rattle.std.proofs.Common.{◌≡◌, Some, sym, ap, ◌∙◌}
-use Rattle.hol_terms.specs.Sequent.{left_of, argument, union, seq, eq_tm}
-use Rattle.hol_terms.specs.Rules.{without}
+use Rattle.std.proofs.Common.{Some, sym, ap, ◌∙◌}
 use Rattle.hol_terms.proofs.Same.{same-is}
-use Rattle.hol_kernel.proofs.Ascending.{without_ascends}
 use Rattle.kernel_lines.proofs.Had.{if_true, if_some}
-use Rattle.nd_rules.specs.Connectives.{conj_tm}
-use Rattle.nd_rules.proofs.Hypotheses.{ascends, joined}
+use Rattle.nd_rules.proofs.Hypotheses.{ascends}
 use Rattle.nd_rules.proofs.Shapes.{both_left, both_right, disj_shape, eq_conj, cases_joined}
 use Rattle.nd_rules.proofs.rules.Rules.disj_e.Goals as goal
 

@@ -2,7 +2,7 @@ use Rattle.std.proofs.Common.{[], ◌∷◌, Some, ap, sym, ◌∙◌}
 use Rattle.hol_terms.specs.Typing.{tm_type}
 use Rattle.hol_terms.specs.Binding.{tm_inst}
 use Rattle.hol_terms.specs.Definition.{signature_of}
-use Rattle.hol_terms.specs.Sequent.{seq, eq_tm, left_of, argument, union}
+use Rattle.hol_terms.specs.Sequent.{seq, eq_tm, left_of, union}
 use Rattle.hol_terms.proofs.Same.{same-is}
 use Rattle.hol_terms.proofs.Checked.{same_ty-is}
 use Rattle.hol_terms.proofs.InstLemmas.{IsOver-closed}

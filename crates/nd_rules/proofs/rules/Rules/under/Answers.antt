@@ -1,4 +1,4 @@
-use Rattle.std.proofs.Common.{sym, ◌∙◌}
+use Rattle.std.proofs.Common.{sym}
 use Rattle.hol_terms.proofs.Same.{same_refl}
 use Rattle.nd_rules.specs.Facts.{conj_with_fact, conj_first_fact}
 use Rattle.nd_rules.proofs.Hypotheses.{without-insert}
