@@ -1,4 +1,4 @@
-use Rattle.std.proofs.Common.{◌≡◌, ◌∙◌, sym, subst}
+use Rattle.std.proofs.Common.{[], ◌∙◌, sym, subst}
 use Rattle.hol_terms.specs.Tm.{Tm}
 use Rattle.hol_terms.specs.Signature.{IsOver}
 use Rattle.hol_terms.specs.Definition.{signature_of}
@@ -18,10 +18,10 @@ pub exchanged-requires-clause-rules : goal.exchanged-requires-clause-rules
 exchanged-requires-clause-rules c = rules_grow _ _ _ c.in_ok-rules.ensures.rules c.conjunction.ensures.grows
 
 pub exchanged-requires-clause-over_p : goal.exchanged-requires-clause-over_p
-exchanged-requires-clause-over_p c = subst (λ (t : Tm). IsOver (signature_of c.conjunction.new.k.defs) [] t) (sym c.in_ok-p.ensures) (p_over _)
+exchanged-requires-clause-over_p c = subst (λ (t : Tm). IsOver (signature_of c.conjunction.new.k.defs) [] t) (sym c.in_ok-p.ensures) (p_over c.conjunction.new.k.defs)
 
 pub exchanged-requires-clause-over_q : goal.exchanged-requires-clause-over_q
-exchanged-requires-clause-over_q c = subst (λ (t : Tm). IsOver (signature_of c.conjunction.new.k.defs) [] t) (sym c.in_ok-q.ensures) (q_over _)
+exchanged-requires-clause-over_q c = subst (λ (t : Tm). IsOver (signature_of c.conjunction.new.k.defs) [] t) (sym c.in_ok-q.ensures) (q_over c.conjunction.new.k.defs)
 
 pub exchanged-requires-clause-has : goal.exchanged-requires-clause-has
 exchanged-requires-clause-has c = c.in_ok-a.ensures.has
