@@ -15,48 +15,84 @@ import time
 PROGRAM = """//! Builds parts of the library.
 #![tactic(auto)]
 
-ghost use Rattle.std.specs.Prelude.{◌≡◌, [], IfOk};
+ghost use Rattle.std.specs.Prelude.{◌≡◌, IfOk};
 ghost use Rattle.hol_terms.specs.Base.{base};
 ghost use Rattle.script_core.specs.Shelves.{AreOn, ShelfHad};
-ghost use Rattle.library_facts.specs.Libraries.{base_facts, number_facts, path_facts};
+ghost use Rattle.nd_rules.specs.Kept.{HasRules};
+ghost use Rattle.th_base.specs.Facts.{base_facts};
+ghost use Rattle.th_num.specs.Facts.{num_facts};
 
 use hol_kernel::Kernel;
 use kernel_lines::start;
+use nd_rules::Rules;
 use script_core::Shelf;
 use std::alloc::{AllocError, Global};
 use std::env;
 use std::process::ExitCode;
 use std::rt::Env;
 
-#[tactic(auto, using(crate::proofs::Shelves::had_none))]
-fn first(alloc: Global) -> Result<(Kernel, Shelf), AllocError>
-    ensures defs { IfOk result (λ r. r.0.defs ≡ base 33) }
-    ensures base_facts { IfOk result (λ r. AreOn r.1 base_facts) }
-    ensures shelf { IfOk result (λ r. ShelfHad r.0 r.1) }
+// A kernel, the rules that serve it, and a shelf.
+#[derive(Drop)]
+struct Built {
+    kernel: Kernel,
+    rules: Rules,
+    shelf: Shelf,
+}
+
+// With the first library.
+#[tactic(auto, using(crate::proofs::Built::first_lemmas))]
+fn first(alloc: Global) -> Result<Built, AllocError>
+    ensures rules { IfOk result (λ b. HasRules b.kernel b.rules) }
+    ensures defs { IfOk result (λ b. b.kernel.defs ≡ base 33) }
+    ensures base_facts { IfOk result (λ b. AreOn b.shelf base_facts) }
+    ensures shelf { IfOk result (λ b. ShelfHad b.kernel b.shelf) }
 {
     let mut kernel = start(alloc)?;
+    let rules = Rules::new(alloc, &mut kernel)?;
     let mut shelf = Shelf::new(alloc)?;
-    th_base::build(alloc, &mut kernel, &mut shelf)?;
-    Ok((kernel, shelf))
+    th_base::build(alloc, &mut kernel, &rules, &mut shelf)?;
+    Ok(Built {
+        kernel,
+        rules,
+        shelf,
+    })
 }
 
-#[tactic(auto, using(library_steps::proofs::Taken::all_more))]
-fn with_numbers(alloc: Global) -> Result<(Kernel, Shelf), AllocError>
-    ensures defs { IfOk result (λ r. r.0.defs ≡ base 43) }
-    ensures base_facts { IfOk result (λ r. AreOn r.1 base_facts) }
-    ensures number_facts { IfOk result (λ r. AreOn r.1 number_facts) }
-    ensures path_facts { IfOk result (λ r. AreOn r.1 path_facts) }
-    ensures shelf { IfOk result (λ r. ShelfHad r.0 r.1) }
+// With numbers and path codes behind it.
+#[tactic(auto, using(crate::proofs::Built::more_lemmas))]
+fn with_numbers(alloc: Global) -> Result<Built, AllocError>
+    ensures rules { IfOk result (λ b. HasRules b.kernel b.rules) }
+    ensures defs { IfOk result (λ b. b.kernel.defs ≡ base 43) }
+    ensures base_facts { IfOk result (λ b. AreOn b.shelf base_facts) }
+    ensures num_facts { IfOk result (λ b. AreOn b.shelf num_facts) }
+    ensures shelf { IfOk result (λ b. ShelfHad b.kernel b.shelf) }
 {
-    let (mut kernel, mut shelf) = first(alloc)?;
-    th_num::build(alloc, &mut kernel, &mut shelf)?;
-    Ok((kernel, shelf))
+    let Built {
+        mut kernel,
+        rules,
+        mut shelf,
+    } = first(alloc)?;
+    th_num::build(alloc, &mut kernel, &rules, &mut shelf)?;
+    Ok(Built {
+        kernel,
+        rules,
+        shelf,
+    })
 }
 
-fn with_countable_sets(alloc: Global) -> Result<Kernel, AllocError> {
-    let (mut kernel, mut shelf) = with_numbers(alloc)?;
-    th_count::build(alloc, &mut kernel, &mut shelf)?;
-    Ok(kernel)
+// And with countable sets.
+fn with_countable_sets(alloc: Global) -> Result<Built, AllocError> {
+    let Built {
+        mut kernel,
+        rules,
+        mut shelf,
+    } = with_numbers(alloc)?;
+    th_count::build(alloc, &mut kernel, &rules, &mut shelf)?;
+    Ok(Built {
+        kernel,
+        rules,
+        shelf,
+    })
 }
 
 // The words of the command line begin with the program's name.
@@ -64,14 +100,17 @@ fn built(alloc: Global, words: usize) -> Result<Kernel, AllocError> {
     match words {
         0 | 1 => start(alloc),
         2 => {
-            let (kernel, _shelf) = first(alloc)?;
+            let Built { kernel, .. } = first(alloc)?;
             Ok(kernel)
         }
         3 => {
-            let (kernel, _shelf) = with_numbers(alloc)?;
+            let Built { kernel, .. } = with_numbers(alloc)?;
             Ok(kernel)
         }
-        _ => with_countable_sets(alloc),
+        _ => {
+            let Built { kernel, .. } = with_countable_sets(alloc)?;
+            Ok(kernel)
+        }
     }
 }
 
@@ -98,7 +137,7 @@ fn main(rt: HostRuntime) -> ExitCode {
     }
 }
 """
-USES = "hol_kernel hol_terms kernel_lines library_facts library_steps script_core th_base th_count th_num"
+USES = "hol_kernel hol_terms kernel_lines library_facts library_steps nd_rules script_core th_base th_count th_num"
 CRATE = "crates/library_times"
 
 
@@ -123,10 +162,10 @@ def main():
             file.write("library_times: %s\n" % USES)
         with open(CRATE + "/src/main.rt", "w") as file:
             file.write(PROGRAM)
-        for name in ("Lib", "Shelves"):
+        for name in ("Lib", "Built"):
             shutil.copy("crates/library_tests/proofs/%s.antt" % name, CRATE + "/proofs")
-        lemma = open(CRATE + "/proofs/Shelves.antt").read().replace("library_tests", "library_times")
-        with open(CRATE + "/proofs/Shelves.antt", "w") as file:
+        lemma = open(CRATE + "/proofs/Built.antt").read().replace("library_tests", "library_times")
+        with open(CRATE + "/proofs/Built.antt", "w") as file:
             file.write(lemma)
         subprocess.run(["rt", "run"], cwd=CRATE, stdout=subprocess.DEVNULL)
         for parts in range(4):

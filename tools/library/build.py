@@ -53,13 +53,13 @@ class Part:
 
     @property
     def lists(self):
-        """The names of the lists of facts that are there before: one for the whole first library, then one a part."""
-        if self.crate == FIRST:
-            return [part.facts for part in self.earlier]
-        return ["base_facts"] + [part.facts for part in self.earlier if part.crate != FIRST]
+        """The names of the lists of facts that are there before: one for each whole crate, then one a part."""
+        whole = dict.fromkeys(WHOLE[part.crate] for part in self.earlier if part.crate != self.crate)
+        return list(whole) + [part.facts for part in self.earlier if part.crate == self.crate]
 
 
-FIRST = "th_base"
+# How the list of all facts of a crate is called.
+WHOLE = {"th_base": "base_facts", "th_num": "num_facts", "th_count": "count_facts"}
 
 
 class Library:

@@ -134,6 +134,9 @@ def countable_enumerated_twice(s):
     return s.gen("s f", s.disch(enumerated.concl, s.choose("h", recursion, countable)))
 
 
+LIBRARY.begin("th_count", "unions", "union_facts", "unions, images, products and sums of countable sets")
+
+
 @fact(
     "!x0:'a -> bool. !x1:'a -> 'b -> bool. countable{'a} x0 ==> ((!x2:'a. x0 x2 ==> countable{'b} (x1 x2)) ==> countable{'b} "
     r"(\x2:'b. ?x3:'a. x0 x3 /\ x1 x3 x2))",

@@ -181,6 +181,9 @@ def cset_map_cong(s):
     return s.gen("f g c", s.disch(agree.concl, same))
 
 
+LIBRARY.begin("th_count", "relators", "relator_facts", "the relator of countable sets")
+
+
 LIBRARY.define(49)
 
 
@@ -284,6 +287,9 @@ def cset_rel_seconds(s):
     return s.gen("r c d", s.disch(related.concl, s.gen("y", s.iff(there, back))))
 
 
+LIBRARY.begin("th_count", "pairs", "pair_facts", "the related pairs of countable sets")
+
+
 @fact(
     r"!x0:'a -> 'b -> bool. !x1:'a cset. !x2:'b cset. !x3:('a,'b) prod cset. (cset.rep{('a,'b) prod} x3 = (\x4:('a,'b) prod. "
     r"(cset.rep{'a} x1 (fst{'a,'b} x4) /\ cset.rep{'b} x2 (snd{'a,'b} x4)) /\ x0 (fst{'a,'b} x4) (snd{'a,'b} x4))) ==> "
@@ -324,6 +330,9 @@ def cset_rel_in(s):
     back = s.open("w", "?w. " + images, back)
     is_set = s.inst_type(s.sym(s.by("CsetSetIsRep")), a="('a,'b) prod")
     return s.rewrite(s.gen("r c d", s.iff(there, back)), is_set)
+
+
+LIBRARY.begin("th_count", "compositions", "composition_facts", "compositions of relations of countable sets")
 
 
 @fact(

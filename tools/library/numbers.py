@@ -2,7 +2,7 @@
 
 from .build import LIBRARY
 
-LIBRARY.begin("th_num", "numbers", "number_facts", "numbers, recursion over them, and their order")
+LIBRARY.begin("th_num", "numbers", "number_facts", "numbers")
 
 fact = LIBRARY.fact
 makes_type = LIBRARY.makes_type
@@ -147,6 +147,9 @@ def num_cases(s):
     return s.mp(induction, zero, s.gen("n", s.disch(r"n = 0 \/ (?m. n = suc m)", step)))
 
 
+LIBRARY.begin("th_num", "graphs", "graph_facts", "the graph of a recursion")
+
+
 @fact(
     "!x0:('a -> 'b -> bool) -> 'a -> 'b -> bool. (!x1:'a -> 'b -> bool. !x2:'a -> 'b -> bool. (!x3:'a. !x4:'b. x1 x3 x4 ==> x2 x3 "
     "x4) ==> (!x3:'a. !x4:'b. x0 x1 x3 x4 ==> x0 x2 x3 x4)) ==> (?x1:'a -> 'b -> bool. !x2:'a. !x3:'b. x1 x2 x3 = x0 x1 x2 x3)",
@@ -261,6 +264,9 @@ def graph_at_step(s):
     value = s.gen("i p b", s.trans(either, s.iff(there, s.disj_r(START, value))))
     value = s.disch(never_zero.concl, s.disch(injective.concl, value))
     return s.gen("z f c G", s.disch(equation.concl, value))
+
+
+LIBRARY.begin("th_num", "recursion", "recursion_facts", "recursion over numbers")
 
 
 @fact(
@@ -402,6 +408,9 @@ def rec_zero(s):
 def rec_suc(s):
     s.fix("z:'a, f:num -> 'a -> 'a")
     return s.gen("z f", s.conj_r(s.by("RecEquations", "z", "f")))
+
+
+LIBRARY.begin("th_num", "order", "order_facts", "the order of numbers")
 
 
 LIBRARY.define(41)

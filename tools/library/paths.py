@@ -2,7 +2,7 @@
 
 from .build import LIBRARY
 
-LIBRARY.begin("th_num", "paths", "path_facts", "doubling and path codes")
+LIBRARY.begin("th_num", "doubling", "doubling_facts", "doubling")
 
 fact = LIBRARY.fact
 
@@ -120,6 +120,9 @@ def even_or_odd(s):
     odd = s.ex_i(later, "suc m", s.disj_l(odd, "suc n = suc (num.dbl (suc m))"))
     either = s.disj_e(s.assume(r"n = num.dbl m \/ n = suc (num.dbl m)"), even, odd)
     return s.induction("n", p, zero, s.open("m", p, either))
+
+
+LIBRARY.begin("th_num", "paths", "path_facts", "path codes")
 
 
 LIBRARY.define(43)

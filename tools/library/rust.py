@@ -3,7 +3,7 @@
 import re
 from dataclasses import dataclass
 
-from .build import FIRST
+from .build import WHOLE
 from .sources import TOP, unescaped
 from .table import Table
 
@@ -143,8 +143,7 @@ def facts(parts):
 
 def texts(parts):
     """The text of the specification of a crate's facts."""
-    is_first = parts[0].crate == FIRST
-    text = [TEXTS_HEAD if is_first else TEXTS_HEAD.replace(", ◌++◌", "")]
+    text = [TEXTS_HEAD]
     for part in parts:
         for entry in part.proved:
             name = constant_name(entry.name).lower()
@@ -152,9 +151,8 @@ def texts(parts):
     for part in parts:
         rows = "".join("    %s%s\n" % ("∷ " if i else "", constant_name(entry.name).lower()) for i, entry in enumerate(part.proved))
         text.append("\n-- on %s\nabbrev pub %s : List Text\n%s =\n%s    ∷ []\n" % (part.title, part.facts, part.facts, rows))
-    if is_first:
-        whole = " ++ ".join(part.facts for part in parts)
-        text.append("\n-- of the whole first library\nabbrev pub base_facts : List Text\nbase_facts = %s\n" % whole)
+    name = WHOLE[parts[0].crate]
+    text.append("\n-- all of them\nabbrev pub %s : List Text\n%s = %s\n" % (name, name, " ++ ".join(part.facts for part in parts)))
     return "".join(text)
 
 

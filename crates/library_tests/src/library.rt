@@ -5,7 +5,7 @@ ghost use Rattle.hol_terms.specs.Base.{base};
 ghost use Rattle.nd_rules.specs.Kept.{HasRules};
 ghost use Rattle.script_core.specs.Shelves.{AreOn, ShelfHad};
 ghost use Rattle.th_base.specs.Facts.{base_facts};
-ghost use Rattle.th_num.specs.Facts.{number_facts, path_facts};
+ghost use Rattle.th_num.specs.Facts.{num_facts};
 
 use hol_kernel::{Kernel, Thm};
 use hol_text::print::print_term;
@@ -72,8 +72,7 @@ fn with_numbers(alloc: Global) -> Result<Built, AllocError>
     ensures rules { IfOk result (λ b. HasRules b.kernel b.rules) }
     ensures defs { IfOk result (λ b. b.kernel.defs ≡ base 43) }
     ensures base_facts { IfOk result (λ b. AreOn b.shelf base_facts) }
-    ensures number_facts { IfOk result (λ b. AreOn b.shelf number_facts) }
-    ensures path_facts { IfOk result (λ b. AreOn b.shelf path_facts) }
+    ensures num_facts { IfOk result (λ b. AreOn b.shelf num_facts) }
     ensures shelf { IfOk result (λ b. ShelfHad b.kernel b.shelf) }
 {
     let Built {

@@ -6,4 +6,5 @@ pub mod SaidLemmas
 pub mod ShelfLemmas
 pub mod TableLemmas
 pub mod Closed
+pub mod Lines
 mod Trials

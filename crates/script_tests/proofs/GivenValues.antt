@@ -24,6 +24,9 @@ types_over ds ys e =
     let h : IsTyOver (signature_of ds) bool_ty = (refl, tt) in
     subst (λ (zs : List Ty). AllTypesOver ds zs) (sym e) (record { all = All-cons (IsTyOver (signature_of ds)) bool_ty [] h (All-nil (IsTyOver (signature_of ds))) })
 
+pub no_types : (ds : List Definition) → AllTypesOver ds []
+no_types ds = record { all = All-nil (IsTyOver (signature_of ds)) }
+
 pub terms_over : (ds : List Definition) (ts : List Tm) → ts ≡ tm_free variable ∷ [] → AllOver ds ts
 terms_over ds ts e =
     subst (λ (us : List Tm). AllOver ds us) (sym e) (record { all = All-cons (IsOver (signature_of ds) []) (tm_free variable) [] (over ds) (All-nil (IsOver (signature_of ds) [])) })

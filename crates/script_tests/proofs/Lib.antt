@@ -3,3 +3,4 @@ pub mod GivenValues
 pub mod NewTypes
 pub mod Cases
 pub mod ListKernel
+pub mod Conjunctions

@@ -5,6 +5,7 @@ use Rattle.hol_terms.specs.Name.{Name}
 use Rattle.hol_terms.specs.Tm.{Tm, FreeVar}
 use Rattle.hol_terms.specs.Definition.{Definition, type_def, bool_ty}
 use Rattle.hol_terms.specs.Base.{base}
+use Rattle.hol_terms.specs.Sequent.{Sequent}
 use Rattle.hol_terms.specs.Text.{Text}
 use Rattle.script_core.specs.Steps.{Registers}
 use Rattle.script_core.specs.Ready.{Fits}
@@ -14,8 +15,15 @@ abbrev pub nothing : Registers
 nothing = record { types = []; terms = []; thms = [] }
 
 -- a variable for truth values
+abbrev pub named : Name → FreeVar
+named n = record { name = n; ty = bool_ty }
+
 abbrev pub variable : FreeVar
-variable = record { name = codes "p"; ty = bool_ty }
+variable = named (codes "p")
+
+-- terms and a theorem
+abbrev pub over_terms : List Tm → Sequent → Registers
+over_terms ts a = record { types = []; terms = ts; thms = a ∷ [] }
 
 -- `T`, which is a fact
 abbrev pub truth_text : Text

@@ -6,7 +6,7 @@ ghost use Rattle.hol_terms.specs.Sequent.{seq};
 ghost use Rattle.hol_terms.specs.Tm.{tm_free};
 ghost use Rattle.hol_terms.specs.Base.{base};
 ghost use Rattle.hol_kernel.specs.State.{Has};
-ghost use Rattle.script_tests.specs.Closed.{variable};
+ghost use Rattle.script_tests.specs.Closed.{named, variable};
 
 use crate::closed::says;
 use hol_kernel::{Kernel, Thm};
@@ -29,12 +29,13 @@ const TABLE: &str = "\
 
 const SEQUENT: &str = "[p:bool] |- ([p:bool] /\\ ([p:bool] = [p:bool])) /\\ ([x:bool] = [x:bool])";
 
-fn formula(alloc: Global) -> Result<Term, AllocError>
-    ensures { IfOk result (λ t. t ≡ tm_free variable) }
+// A variable for truth values.
+pub(crate) fn formula(alloc: Global, name: &str) -> Result<Term, AllocError>
+    ensures { IfOk result (λ t. t ≡ tm_free (named name.now)) }
 {
     let truth = HolType::app(alloc, "bool", &[])?;
-    let p = Var::new(alloc, "p", &truth)?;
-    let t = Term::mk_var(alloc, &p)?;
+    let v = Var::new(alloc, name, &truth)?;
+    let t = Term::mk_var(alloc, &v)?;
     Ok(t)
 }
 
@@ -83,7 +84,7 @@ fn run_given(
 fn from_given(alloc: Global) -> Result<Thm, AllocError> {
     let mut k = start(alloc)?;
     let types = [HolType::app(alloc, "bool", &[])?];
-    let terms = [formula(alloc)?];
+    let terms = [formula(alloc, "p")?];
     let a = assumed(alloc, &mut k, &terms[0])?;
     run_given(alloc, &mut k, &types, &terms, &a)
 }

@@ -14,6 +14,8 @@ mod corners;
 #[cfg(test)]
 mod derived_rules;
 #[cfg(test)]
+mod exchange;
+#[cfg(test)]
 mod given;
 #[cfg(test)]
 mod kernel_rules;

@@ -233,6 +233,6 @@ sum_facts =
     ∷ case_inr
     ∷ []
 
--- of the whole first library
+-- all of them
 abbrev pub base_facts : List Text
 base_facts = logic_facts ++ product_facts ++ sum_facts

@@ -1,6 +1,6 @@
 -- Written by `python3 tools/library.py write` from the scripts of tools/library/.
 -- The facts of this library, in the order of proving.
-use Rattle.std.specs.Prelude.{List, [], ◌∷◌, codes}
+use Rattle.std.specs.Prelude.{List, [], ◌∷◌, ◌++◌, codes}
 use Rattle.hol_terms.specs.Text.{Text}
 
 -- what the numbers enumerate is countable
@@ -196,7 +196,12 @@ countable_facts =
     ∷ countable_unit
     ∷ countable_bool
     ∷ countable_enumerated_twice
-    ∷ countable_union
+    ∷ []
+
+-- on unions, images, products and sums of countable sets
+abbrev pub union_facts : List Text
+union_facts =
+    countable_union
     ∷ countable_union_of_two
     ∷ countable_image
     ∷ countable_range
@@ -224,16 +229,35 @@ cset_facts =
     ∷ cset_set_map
     ∷ cset_set_count
     ∷ cset_map_cong
-    ∷ cset_maps_relate_each
+    ∷ []
+
+-- on the relator of countable sets
+abbrev pub relator_facts : List Text
+relator_facts =
+    cset_maps_relate_each
     ∷ cset_maps_related
     ∷ cset_related_pairs
     ∷ cset_rel_firsts
     ∷ cset_rel_seconds
-    ∷ cset_rel_of_pairs
+    ∷ []
+
+-- on the related pairs of countable sets
+abbrev pub pair_facts : List Text
+pair_facts =
+    cset_rel_of_pairs
     ∷ cset_rel_in
-    ∷ cset_rel_between
+    ∷ []
+
+-- on compositions of relations of countable sets
+abbrev pub composition_facts : List Text
+composition_facts =
+    cset_rel_between
     ∷ cset_rel_split
     ∷ cset_rel_forwards
     ∷ cset_rel_backwards
     ∷ cset_rel_comp
     ∷ []
+
+-- all of them
+abbrev pub count_facts : List Text
+count_facts = countable_facts ++ union_facts ++ cset_facts ++ relator_facts ++ pair_facts ++ composition_facts

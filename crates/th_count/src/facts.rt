@@ -55,6 +55,8 @@ pub const COUNTABLE_ENUMERATED_TWICE: Fact = Fact {
     statement: "!x0:'a -> bool. !x1:num -> num -> 'a. (!x2:'a. x0 x2 ==> (?x3:num. ?x4:num. x2 = x1 x3 x4)) ==> countable{'a} x0",
 };
 
+// On unions, images, products and sums of countable sets.
+
 /// The union of countably many countable sets is countable.
 pub const COUNTABLE_UNION: Fact = Fact {
     statement: "!x0:'a -> bool. !x1:'a -> 'b -> bool. countable{'a} x0 ==> ((!x2:'a. x0 x2 ==> countable{'b} (x1 x2)) ==> countable{'b} (\\x2:'b. ?x3:'a. x0 x3 /\\ x1 x3 x2))",
@@ -172,6 +174,8 @@ pub const CSET_MAP_CONG: Fact = Fact {
     statement: "!x0:'a -> 'b. !x1:'a -> 'b. !x2:'a cset. (!x3:'a. cset.set1{'a} x2 x3 ==> (x0 x3 = x1 x3)) ==> (cset.map{'a,'b} x0 x2 = cset.map{'a,'b} x1 x2)",
 };
 
+// On the relator of countable sets.
+
 /// Where two functions are related on a set, each member of the one image has a related member of the other.
 pub const CSET_MAPS_RELATE_EACH: Fact = Fact {
     statement: "!x0:'b -> 'c -> bool. !x1:'a -> 'b. !x2:'a -> 'c. !x3:'a cset. (!x4:'a. cset.rep{'a} x3 x4 ==> x0 (x1 x4) (x2 x4)) ==> (!x4:'b. cset.rep{'b} (cset.map{'a,'b} x1 x3) x4 ==> (?x5:'c. cset.rep{'c} (cset.map{'a,'c} x2 x3) x5 /\\ x0 x4 x5))",
@@ -197,6 +201,8 @@ pub const CSET_REL_SECONDS: Fact = Fact {
     statement: "!x0:'a -> 'b -> bool. !x1:'a cset. !x2:'b cset. cset.rel{'a,'b} x0 x1 x2 ==> (!x3:'b. (?x4:('a,'b) prod. ((cset.rep{'a} x1 (fst{'a,'b} x4) /\\ cset.rep{'b} x2 (snd{'a,'b} x4)) /\\ x0 (fst{'a,'b} x4) (snd{'a,'b} x4)) /\\ (x3 = snd{'a,'b} x4)) = cset.rep{'b} x2 x3)",
 };
 
+// On the related pairs of countable sets.
+
 /// Related sets are the images of the set of their related pairs.
 pub const CSET_REL_OF_PAIRS: Fact = Fact {
     statement: "!x0:'a -> 'b -> bool. !x1:'a cset. !x2:'b cset. !x3:('a,'b) prod cset. (cset.rep{('a,'b) prod} x3 = (\\x4:('a,'b) prod. (cset.rep{'a} x1 (fst{'a,'b} x4) /\\ cset.rep{'b} x2 (snd{'a,'b} x4)) /\\ x0 (fst{'a,'b} x4) (snd{'a,'b} x4))) ==> (cset.rel{'a,'b} x0 x1 x2 ==> ((!x4:('a,'b) prod. cset.rep{('a,'b) prod} x3 x4 ==> x0 (fst{'a,'b} x4) (snd{'a,'b} x4)) /\\ ((cset.map{('a,'b) prod,'a} fst{'a,'b} x3 = x1) /\\ (cset.map{('a,'b) prod,'b} snd{'a,'b} x3 = x2))))",
@@ -206,6 +212,8 @@ pub const CSET_REL_OF_PAIRS: Fact = Fact {
 pub const CSET_REL_IN: Fact = Fact {
     statement: "!x0:'a -> 'b -> bool. !x1:'a cset. !x2:'b cset. cset.rel{'a,'b} x0 x1 x2 = (?x3:('a,'b) prod cset. (!x4:('a,'b) prod. cset.set1{('a,'b) prod} x3 x4 ==> x0 (fst{'a,'b} x4) (snd{'a,'b} x4)) /\\ ((cset.map{('a,'b) prod,'a} fst{'a,'b} x3 = x1) /\\ (cset.map{('a,'b) prod,'b} snd{'a,'b} x3 = x2)))",
 };
+
+// On compositions of relations of countable sets.
 
 /// Where a composition relates the values of two functions on a set, there is a set between the images.
 pub const CSET_REL_BETWEEN: Fact = Fact {

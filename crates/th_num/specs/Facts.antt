@@ -1,6 +1,6 @@
 -- Written by `python3 tools/library.py write` from the scripts of tools/library/.
 -- The facts of this library, in the order of proving.
-use Rattle.std.specs.Prelude.{List, [], ◌∷◌, codes}
+use Rattle.std.specs.Prelude.{List, [], ◌∷◌, ◌++◌, codes}
 use Rattle.hol_terms.specs.Text.{Text}
 
 -- the successor on ind is injective and not onto
@@ -227,7 +227,7 @@ path_induction = codes "!x0:num -> bool. x0 0 ==> ((!x1:num. !x2:num. x0 x2 ==> 
 abbrev pub path_recursion : Text
 path_recursion = codes "!x0:'a. !x1:num -> num -> 'a -> 'a. ?x2:num -> 'a. (x2 0 = x0) /\\ (!x3:num. !x4:num. x2 (num.cons x3 x4) = x1 x3 x4 (x2 x4))"
 
--- on numbers, recursion over them, and their order
+-- on numbers
 abbrev pub number_facts : List Text
 number_facts =
     ind_infinite
@@ -243,12 +243,22 @@ number_facts =
     ∷ suc_injective
     ∷ num_induction
     ∷ num_cases
-    ∷ fixed_relation
+    ∷ []
+
+-- on the graph of a recursion
+abbrev pub graph_facts : List Text
+graph_facts =
+    fixed_relation
     ∷ recursion_graph
     ∷ graph_at_zero
     ∷ one_point_of_two
     ∷ graph_at_step
-    ∷ only_one
+    ∷ []
+
+-- on recursion over numbers
+abbrev pub recursion_facts : List Text
+recursion_facts =
+    only_one
     ∷ graph_values
     ∷ graph_function
     ∷ recursion_from_graph
@@ -257,7 +267,12 @@ number_facts =
     ∷ rec_equations
     ∷ rec_zero
     ∷ rec_suc
-    ∷ le_reflexive
+    ∷ []
+
+-- on the order of numbers
+abbrev pub order_facts : List Text
+order_facts =
+    le_reflexive
     ∷ le_suc
     ∷ le_induction
     ∷ le_transitive
@@ -268,9 +283,9 @@ number_facts =
     ∷ strong_induction
     ∷ []
 
--- on doubling and path codes
-abbrev pub path_facts : List Text
-path_facts =
+-- on doubling
+abbrev pub doubling_facts : List Text
+doubling_facts =
     double_zero
     ∷ double_suc
     ∷ even_odd_selector
@@ -280,7 +295,12 @@ path_facts =
     ∷ le_double
     ∷ below_double
     ∷ even_or_odd
-    ∷ cons_zero
+    ∷ []
+
+-- on path codes
+abbrev pub path_facts : List Text
+path_facts =
+    cons_zero
     ∷ cons_suc
     ∷ below_cons
     ∷ cons_not_zero
@@ -292,3 +312,7 @@ path_facts =
     ∷ path_induction
     ∷ path_recursion
     ∷ []
+
+-- all of them
+abbrev pub num_facts : List Text
+num_facts = number_facts ++ graph_facts ++ recursion_facts ++ order_facts ++ doubling_facts ++ path_facts

@@ -3,7 +3,7 @@
 
 use library_facts::Fact;
 
-// On numbers, recursion over them, and their order.
+// On numbers.
 
 /// The successor on ind is injective and not onto.
 pub const IND_INFINITE: Fact = Fact {
@@ -70,6 +70,8 @@ pub const NUM_CASES: Fact = Fact {
     statement: "!x0:num. (x0 = 0) \\/ (?x1:num. x0 = suc x1)",
 };
 
+// On the graph of a recursion.
+
 /// Knaster and Tarski: a monotone function of relations has a fixed relation.
 pub const FIXED_RELATION: Fact = Fact {
     statement: "!x0:('a -> 'b -> bool) -> 'a -> 'b -> bool. (!x1:'a -> 'b -> bool. !x2:'a -> 'b -> bool. (!x3:'a. !x4:'b. x1 x3 x4 ==> x2 x3 x4) ==> (!x3:'a. !x4:'b. x0 x1 x3 x4 ==> x0 x2 x3 x4)) ==> (?x1:'a -> 'b -> bool. !x2:'a. !x3:'b. x1 x2 x3 = x0 x1 x2 x3)",
@@ -94,6 +96,8 @@ pub const ONE_POINT_OF_TWO: Fact = Fact {
 pub const GRAPH_AT_STEP: Fact = Fact {
     statement: "!x0:'a. !x1:'b -> num -> 'a -> 'a. !x2:'b -> num -> num. !x3:num -> 'a -> bool. (!x4:num. !x5:'a. x3 x4 x5 = (((x4 = 0) /\\ (x5 = x0)) \\/ (?x6:'b. ?x7:num. (x4 = x2 x6 x7) /\\ (?x8:'a. x3 x7 x8 /\\ (x5 = x1 x6 x7 x8))))) ==> ((!x4:'b. !x5:num. ~ (x2 x4 x5 = 0)) ==> ((!x4:'b. !x5:num. !x6:'b. !x7:num. (x2 x4 x5 = x2 x6 x7) ==> ((x4 = x6) /\\ (x5 = x7))) ==> (!x4:'b. !x5:num. !x6:'a. x3 (x2 x4 x5) x6 = (?x7:'a. x3 x5 x7 /\\ (x6 = x1 x4 x5 x7)))))",
 };
+
+// On recursion over numbers.
 
 /// One-point rule: where b alone satisfies P, there is one that satisfies P and Q where b satisfies Q.
 pub const ONLY_ONE: Fact = Fact {
@@ -140,6 +144,8 @@ pub const REC_SUC: Fact = Fact {
     statement: "!x0:'a. !x1:num -> 'a -> 'a. !x2:num. num.rec{'a} x0 x1 (suc x2) = x1 x2 (num.rec{'a} x0 x1 x2)",
 };
 
+// On the order of numbers.
+
 /// A number is at most itself.
 pub const LE_REFLEXIVE: Fact = Fact {
     statement: "!x0:num. num.le x0 x0",
@@ -185,7 +191,7 @@ pub const STRONG_INDUCTION: Fact = Fact {
     statement: "!x0:num -> bool. (!x1:num. (!x2:num. num.le (suc x2) x1 ==> x0 x2) ==> x0 x1) ==> (!x1:num. x0 x1)",
 };
 
-// On doubling and path codes.
+// On doubling.
 
 /// Twice zero.
 pub const DOUBLE_ZERO: Fact = Fact {
@@ -231,6 +237,8 @@ pub const BELOW_DOUBLE: Fact = Fact {
 pub const EVEN_OR_ODD: Fact = Fact {
     statement: "!x0:num. ?x1:num. (x0 = num.dbl x1) \\/ (x0 = suc (num.dbl x1))",
 };
+
+// On path codes.
 
 /// The path code of a step 0.
 pub const CONS_ZERO: Fact = Fact {

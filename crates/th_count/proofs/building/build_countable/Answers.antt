@@ -2,7 +2,7 @@
 use Rattle.std.proofs.Common.{refl, Some}
 use Rattle.library_steps.proofs.Computed.{from_none, from_more}
 use Rattle.library_steps.proofs.Taken.{both_on, can_take, made_to, facts_to}
-use Rattle.th_count.proofs.CountableTables.{constant_43, countable_enumerated_proves, countable_enumeration_proves, countable_subset_proves, countable_on_type_proves, countable_num_proves, countable_empty_proves, countable_singleton_proves, countable_unit_proves, countable_bool_proves, countable_enumerated_twice_proves, countable_union_proves, countable_union_of_two_proves, countable_image_proves, countable_range_proves, countable_injection_proves, countable_product_proves, countable_prod_proves, countable_sum_proves}
+use Rattle.th_count.proofs.CountableTables.{constant_43, countable_enumerated_proves, countable_enumeration_proves, countable_subset_proves, countable_on_type_proves, countable_num_proves, countable_empty_proves, countable_singleton_proves, countable_unit_proves, countable_bool_proves, countable_enumerated_twice_proves}
 use Rattle.th_count.specs.Facts as facts
 use Rattle.th_base.specs.Facts as th_base
 use Rattle.th_num.specs.Facts as th_num
@@ -15,7 +15,7 @@ pub take_steps-requires-clause-shelf : goal.take_steps-requires-clause-shelf
 take_steps-requires-clause-shelf c = c.requires.shelf
 
 pub take_steps-requires-clause-fit : goal.take_steps-requires-clause-fit
-take_steps-requires-clause-fit c = can_take c.requires.defs (both_on c.requires.base_facts (both_on c.requires.number_facts c.requires.path_facts)) (record { all = ((refl, constant_43), ((from_more 16 (refl {a = Some th_base.choice_on}) from_none, countable_enumerated_proves), ((from_more 14 (refl {a = Some th_base.some_holds}) (from_more 16 (refl {a = Some th_base.choice_on}) from_none), countable_enumeration_proves), ((from_more 99 (refl {a = Some facts.countable_enumerated}) (from_more 100 (refl {a = Some facts.countable_enumeration}) from_none), countable_subset_proves), ((from_more 101 (refl {a = Some facts.countable_subset}) (from_more 0 (refl {a = Some th_base.truth}) from_none), countable_on_type_proves), ((from_more 99 (refl {a = Some facts.countable_enumerated}) from_none, countable_num_proves), ((from_more 99 (refl {a = Some facts.countable_enumerated}) from_none, countable_empty_proves), ((from_more 99 (refl {a = Some facts.countable_enumerated}) from_none, countable_singleton_proves), ((from_more 23 (refl {a = Some th_base.unit_equal}) (from_more 105 (refl {a = Some facts.countable_singleton}) from_none), countable_unit_proves), ((from_more 11 (refl {a = Some th_base.not_as_equation}) (from_more 52 (refl {a = Some th_num.suc_not_zero}) (from_more 2 (refl {a = Some th_base.excluded_middle}) (from_more 99 (refl {a = Some facts.countable_enumerated}) from_none))), countable_bool_proves), ((from_more 98 (refl {a = Some th_num.path_recursion}) (from_more 99 (refl {a = Some facts.countable_enumerated}) from_none), countable_enumerated_twice_proves), ((from_more 108 (refl {a = Some facts.countable_enumerated_twice}) (from_more 100 (refl {a = Some facts.countable_enumeration}) from_none), countable_union_proves), ((from_more 66 (refl {a = Some th_num.num_recursion}) (from_more 108 (refl {a = Some facts.countable_enumerated_twice}) (from_more 100 (refl {a = Some facts.countable_enumeration}) from_none)), countable_union_of_two_proves), ((from_more 109 (refl {a = Some facts.countable_union}) (from_more 105 (refl {a = Some facts.countable_singleton}) from_none), countable_image_proves), ((from_more 111 (refl {a = Some facts.countable_image}) (from_more 0 (refl {a = Some th_base.truth}) (from_more 101 (refl {a = Some facts.countable_subset}) from_none)), countable_range_proves), ((from_more 14 (refl {a = Some th_base.some_holds}) (from_more 111 (refl {a = Some facts.countable_image}) (from_more 101 (refl {a = Some facts.countable_subset}) from_none)), countable_injection_proves), ((from_more 109 (refl {a = Some facts.countable_union}) (from_more 111 (refl {a = Some facts.countable_image}) (from_more 31 (refl {a = Some th_base.pair_of_components}) (from_more 101 (refl {a = Some facts.countable_subset}) from_none))), countable_product_proves), ((from_more 114 (refl {a = Some facts.countable_product}) (from_more 0 (refl {a = Some th_base.truth}) from_none), countable_prod_proves), ((from_more 112 (refl {a = Some facts.countable_range}) (from_more 110 (refl {a = Some facts.countable_union_of_two}) (from_more 40 (refl {a = Some th_base.inl_or_inr}) from_none)), countable_sum_proves), tt))))))))))))))))))) })
+take_steps-requires-clause-fit c = can_take c.requires.defs (both_on c.requires.base_facts c.requires.num_facts) (record { all = ((refl, constant_43), ((from_more 16 (refl {a = Some th_base.choice_on}) from_none, countable_enumerated_proves), ((from_more 14 (refl {a = Some th_base.some_holds}) (from_more 16 (refl {a = Some th_base.choice_on}) from_none), countable_enumeration_proves), ((from_more 99 (refl {a = Some facts.countable_enumerated}) (from_more 100 (refl {a = Some facts.countable_enumeration}) from_none), countable_subset_proves), ((from_more 101 (refl {a = Some facts.countable_subset}) (from_more 0 (refl {a = Some th_base.truth}) from_none), countable_on_type_proves), ((from_more 99 (refl {a = Some facts.countable_enumerated}) from_none, countable_num_proves), ((from_more 99 (refl {a = Some facts.countable_enumerated}) from_none, countable_empty_proves), ((from_more 99 (refl {a = Some facts.countable_enumerated}) from_none, countable_singleton_proves), ((from_more 23 (refl {a = Some th_base.unit_equal}) (from_more 105 (refl {a = Some facts.countable_singleton}) from_none), countable_unit_proves), ((from_more 11 (refl {a = Some th_base.not_as_equation}) (from_more 52 (refl {a = Some th_num.suc_not_zero}) (from_more 2 (refl {a = Some th_base.excluded_middle}) (from_more 99 (refl {a = Some facts.countable_enumerated}) from_none))), countable_bool_proves), ((from_more 98 (refl {a = Some th_num.path_recursion}) (from_more 99 (refl {a = Some facts.countable_enumerated}) from_none), countable_enumerated_twice_proves), tt))))))))))) })
 
 pub returns-clause-defs : goal.returns-clause-defs
 returns-clause-defs c = made_to c.in_ok-take_steps.ensures.defs c.requires.defs refl

@@ -2,7 +2,7 @@
 use Rattle.std.proofs.Common.{refl, Some}
 use Rattle.library_steps.proofs.Computed.{from_none, from_more}
 use Rattle.library_steps.proofs.Taken.{both_on, can_take, made_to, facts_to}
-use Rattle.th_count.proofs.CsetsTables.{cset_inhabited_shows, cset_abs_rep_proves, cset_rep_abs_proves, cset_countable_proves, cset_extensionality_proves, cset_member_proves, constant_45, constant_46, cset_map_member_proves, cset_map_is_proves, cset_map_exists_proves, cset_map_id_proves, cset_map_comp_proves, constant_47, cset_set_is_rep_proves, cset_set_member_proves, cset_set_map_proves, cset_set_count_proves, cset_map_cong_proves, constant_48, cset_maps_relate_each_proves, cset_maps_related_proves, cset_related_pairs_proves, cset_rel_firsts_proves, cset_rel_seconds_proves, cset_rel_of_pairs_proves, cset_rel_in_proves, cset_rel_between_proves, cset_rel_split_proves, cset_rel_forwards_proves, cset_rel_backwards_proves, cset_rel_comp_proves}
+use Rattle.th_count.proofs.CsetsTables.{cset_inhabited_shows, cset_abs_rep_proves, cset_rep_abs_proves, cset_countable_proves, cset_extensionality_proves, cset_member_proves, constant_45, constant_46, cset_map_member_proves, cset_map_is_proves, cset_map_exists_proves, cset_map_id_proves, cset_map_comp_proves, constant_47, cset_set_is_rep_proves, cset_set_member_proves, cset_set_map_proves, cset_set_count_proves, cset_map_cong_proves}
 use Rattle.th_count.specs.Facts as facts
 use Rattle.th_base.specs.Facts as th_base
 use Rattle.th_count.proofs.building.build_csets.Goals as goal
@@ -14,7 +14,7 @@ pub take_steps-requires-clause-shelf : goal.take_steps-requires-clause-shelf
 take_steps-requires-clause-shelf c = c.requires.shelf
 
 pub take_steps-requires-clause-fit : goal.take_steps-requires-clause-fit
-take_steps-requires-clause-fit c = can_take c.requires.defs (both_on c.requires.base_facts (both_on c.requires.number_facts (both_on c.requires.path_facts c.requires.countable_facts))) (record { all = ((refl, cset_inhabited_shows), ((from_none, cset_abs_rep_proves), ((from_none, cset_rep_abs_proves), ((from_more 117 (refl {a = Some facts.cset_abs_rep}) (from_more 118 (refl {a = Some facts.cset_rep_abs}) from_none), cset_countable_proves), ((from_more 1 (refl {a = Some th_base.extensionality}) (from_more 117 (refl {a = Some facts.cset_abs_rep}) from_none), cset_extensionality_proves), ((from_more 118 (refl {a = Some facts.cset_rep_abs}) from_none, cset_member_proves), ((refl, constant_45), ((refl, constant_46), ((from_more 111 (refl {a = Some facts.countable_image}) (from_more 119 (refl {a = Some facts.cset_countable}) (from_more 121 (refl {a = Some facts.cset_member}) from_none)), cset_map_member_proves), ((from_more 122 (refl {a = Some facts.cset_map_member}) (from_more 120 (refl {a = Some facts.cset_extensionality}) from_none), cset_map_is_proves), ((from_more 122 (refl {a = Some facts.cset_map_member}) from_none, cset_map_exists_proves), ((from_more 18 (refl {a = Some th_base.identity}) (from_more 123 (refl {a = Some facts.cset_map_is}) from_none), cset_map_id_proves), ((from_more 124 (refl {a = Some facts.cset_map_exists}) (from_more 122 (refl {a = Some facts.cset_map_member}) (from_more 123 (refl {a = Some facts.cset_map_is}) from_none)), cset_map_comp_proves), ((refl, constant_47), ((from_none, cset_set_is_rep_proves), ((from_none, cset_set_member_proves), ((from_more 127 (refl {a = Some facts.cset_set_is_rep}) (from_more 122 (refl {a = Some facts.cset_map_member}) from_none), cset_set_map_proves), ((from_more 119 (refl {a = Some facts.cset_countable}) (from_more 127 (refl {a = Some facts.cset_set_is_rep}) from_none), cset_set_count_proves), ((from_more 127 (refl {a = Some facts.cset_set_is_rep}) (from_more 122 (refl {a = Some facts.cset_map_member}) (from_more 123 (refl {a = Some facts.cset_map_is}) from_none)), cset_map_cong_proves), ((refl, constant_48), ((from_more 122 (refl {a = Some facts.cset_map_member}) (from_more 124 (refl {a = Some facts.cset_map_exists}) from_none), cset_maps_relate_each_proves), ((from_more 132 (refl {a = Some facts.cset_maps_relate_each}) from_none, cset_maps_related_proves), ((from_more 114 (refl {a = Some facts.countable_product}) (from_more 119 (refl {a = Some facts.cset_countable}) (from_more 101 (refl {a = Some facts.countable_subset}) (from_more 118 (refl {a = Some facts.cset_rep_abs}) from_none))), cset_related_pairs_proves), ((from_more 29 (refl {a = Some th_base.fst_pair}) (from_more 30 (refl {a = Some th_base.snd_pair}) from_none), cset_rel_firsts_proves), ((from_more 29 (refl {a = Some th_base.fst_pair}) (from_more 30 (refl {a = Some th_base.snd_pair}) from_none), cset_rel_seconds_proves), ((from_more 123 (refl {a = Some facts.cset_map_is}) (from_more 135 (refl {a = Some facts.cset_rel_firsts}) (from_more 136 (refl {a = Some facts.cset_rel_seconds}) from_none)), cset_rel_of_pairs_proves), ((from_more 137 (refl {a = Some facts.cset_rel_of_pairs}) (from_more 134 (refl {a = Some facts.cset_related_pairs}) (from_more 133 (refl {a = Some facts.cset_maps_related}) (from_more 127 (refl {a = Some facts.cset_set_is_rep}) from_none))), cset_rel_in_proves), ((from_more 16 (refl {a = Some th_base.choice_on}) (from_more 133 (refl {a = Some facts.cset_maps_related}) from_none), cset_rel_between_proves), ((from_more 138 (refl {a = Some facts.cset_rel_in}) (from_more 127 (refl {a = Some facts.cset_set_is_rep}) (from_more 139 (refl {a = Some facts.cset_rel_between}) from_none)), cset_rel_split_proves), ((from_none, cset_rel_forwards_proves), ((from_none, cset_rel_backwards_proves), ((from_more 140 (refl {a = Some facts.cset_rel_split}) (from_more 141 (refl {a = Some facts.cset_rel_forwards}) (from_more 142 (refl {a = Some facts.cset_rel_backwards}) from_none)), cset_rel_comp_proves), tt)))))))))))))))))))))))))))))))) })
+take_steps-requires-clause-fit c = can_take c.requires.defs (both_on c.requires.base_facts (both_on c.requires.num_facts (both_on c.requires.countable_facts c.requires.union_facts))) (record { all = ((refl, cset_inhabited_shows), ((from_none, cset_abs_rep_proves), ((from_none, cset_rep_abs_proves), ((from_more 117 (refl {a = Some facts.cset_abs_rep}) (from_more 118 (refl {a = Some facts.cset_rep_abs}) from_none), cset_countable_proves), ((from_more 1 (refl {a = Some th_base.extensionality}) (from_more 117 (refl {a = Some facts.cset_abs_rep}) from_none), cset_extensionality_proves), ((from_more 118 (refl {a = Some facts.cset_rep_abs}) from_none, cset_member_proves), ((refl, constant_45), ((refl, constant_46), ((from_more 111 (refl {a = Some facts.countable_image}) (from_more 119 (refl {a = Some facts.cset_countable}) (from_more 121 (refl {a = Some facts.cset_member}) from_none)), cset_map_member_proves), ((from_more 122 (refl {a = Some facts.cset_map_member}) (from_more 120 (refl {a = Some facts.cset_extensionality}) from_none), cset_map_is_proves), ((from_more 122 (refl {a = Some facts.cset_map_member}) from_none, cset_map_exists_proves), ((from_more 18 (refl {a = Some th_base.identity}) (from_more 123 (refl {a = Some facts.cset_map_is}) from_none), cset_map_id_proves), ((from_more 124 (refl {a = Some facts.cset_map_exists}) (from_more 122 (refl {a = Some facts.cset_map_member}) (from_more 123 (refl {a = Some facts.cset_map_is}) from_none)), cset_map_comp_proves), ((refl, constant_47), ((from_none, cset_set_is_rep_proves), ((from_none, cset_set_member_proves), ((from_more 127 (refl {a = Some facts.cset_set_is_rep}) (from_more 122 (refl {a = Some facts.cset_map_member}) from_none), cset_set_map_proves), ((from_more 119 (refl {a = Some facts.cset_countable}) (from_more 127 (refl {a = Some facts.cset_set_is_rep}) from_none), cset_set_count_proves), ((from_more 127 (refl {a = Some facts.cset_set_is_rep}) (from_more 122 (refl {a = Some facts.cset_map_member}) (from_more 123 (refl {a = Some facts.cset_map_is}) from_none)), cset_map_cong_proves), tt))))))))))))))))))) })
 
 pub returns-clause-defs : goal.returns-clause-defs
 returns-clause-defs c = made_to c.in_ok-take_steps.ensures.defs c.requires.defs refl

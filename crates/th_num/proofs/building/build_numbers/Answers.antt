@@ -2,7 +2,7 @@
 use Rattle.std.proofs.Common.{refl, Some}
 use Rattle.library_steps.proofs.Computed.{from_none, from_more}
 use Rattle.library_steps.proofs.Taken.{can_take, made_to, facts_to}
-use Rattle.th_num.proofs.NumbersTables.{constant_33, ind_infinite_proves, constant_34, zero_ind_not_suc_proves, constant_35, zero_ind_is_num_proves, suc_ind_is_num_proves, num_inhabited_shows, num_abs_rep_proves, num_rep_abs_proves, rep_is_num_proves, constant_37, rep_zero_proves, constant_38, rep_suc_proves, suc_not_zero_proves, suc_injective_proves, num_induction_proves, num_cases_proves, fixed_relation_proves, recursion_graph_proves, graph_at_zero_proves, one_point_of_two_proves, graph_at_step_proves, only_one_proves, graph_values_proves, graph_function_proves, recursion_from_graph_proves, recursion_proves, num_recursion_proves, constant_39, rec_equations_proves, rec_zero_proves, rec_suc_proves, constant_40, le_reflexive_proves, le_suc_proves, le_induction_proves, le_transitive_proves, le_suc_suc_proves, le_cases_proves, none_below_zero_proves, le_of_sucs_proves, strong_induction_proves}
+use Rattle.th_num.proofs.NumbersTables.{constant_33, ind_infinite_proves, constant_34, zero_ind_not_suc_proves, constant_35, zero_ind_is_num_proves, suc_ind_is_num_proves, num_inhabited_shows, num_abs_rep_proves, num_rep_abs_proves, rep_is_num_proves, constant_37, rep_zero_proves, constant_38, rep_suc_proves, suc_not_zero_proves, suc_injective_proves, num_induction_proves, num_cases_proves}
 use Rattle.th_num.specs.Facts as facts
 use Rattle.th_base.specs.Facts as th_base
 use Rattle.th_num.proofs.building.build_numbers.Goals as goal
@@ -14,7 +14,7 @@ pub take_steps-requires-clause-shelf : goal.take_steps-requires-clause-shelf
 take_steps-requires-clause-shelf c = c.requires.shelf
 
 pub take_steps-requires-clause-fit : goal.take_steps-requires-clause-fit
-take_steps-requires-clause-fit c = can_take c.requires.defs c.requires.base_facts (record { all = ((refl, constant_33), ((from_more 14 (refl {a = Some th_base.some_holds}) from_none, ind_infinite_proves), ((refl, constant_34), ((from_more 43 (refl {a = Some facts.ind_infinite}) (from_more 10 (refl {a = Some th_base.not_all}) (from_more 14 (refl {a = Some th_base.some_holds}) from_none)), zero_ind_not_suc_proves), ((refl, constant_35), ((from_none, zero_ind_is_num_proves), ((from_none, suc_ind_is_num_proves), ((refl, num_inhabited_shows), ((from_none, num_abs_rep_proves), ((from_none, num_rep_abs_proves), ((from_more 47 (refl {a = Some facts.num_abs_rep}) (from_more 48 (refl {a = Some facts.num_rep_abs}) from_none), rep_is_num_proves), ((refl, constant_37), ((from_more 48 (refl {a = Some facts.num_rep_abs}) (from_more 45 (refl {a = Some facts.zero_ind_is_num}) from_none), rep_zero_proves), ((refl, constant_38), ((from_more 46 (refl {a = Some facts.suc_ind_is_num}) (from_more 49 (refl {a = Some facts.rep_is_num}) (from_more 48 (refl {a = Some facts.num_rep_abs}) from_none)), rep_suc_proves), ((from_more 51 (refl {a = Some facts.rep_suc}) (from_more 50 (refl {a = Some facts.rep_zero}) (from_more 44 (refl {a = Some facts.zero_ind_not_suc}) from_none)), suc_not_zero_proves), ((from_more 51 (refl {a = Some facts.rep_suc}) (from_more 43 (refl {a = Some facts.ind_infinite}) (from_more 47 (refl {a = Some facts.num_abs_rep}) from_none)), suc_injective_proves), ((from_more 49 (refl {a = Some facts.rep_is_num}) (from_more 45 (refl {a = Some facts.zero_ind_is_num}) (from_more 48 (refl {a = Some facts.num_rep_abs}) (from_more 46 (refl {a = Some facts.suc_ind_is_num}) (from_more 47 (refl {a = Some facts.num_abs_rep}) from_none)))), num_induction_proves), ((from_more 54 (refl {a = Some facts.num_induction}) from_none, num_cases_proves), ((from_none, fixed_relation_proves), ((from_more 56 (refl {a = Some facts.fixed_relation}) from_none, recursion_graph_proves), ((from_none, graph_at_zero_proves), ((from_none, one_point_of_two_proves), ((from_more 59 (refl {a = Some facts.one_point_of_two}) from_none, graph_at_step_proves), ((from_none, only_one_proves), ((from_more 61 (refl {a = Some facts.only_one}) from_none, graph_values_proves), ((from_more 15 (refl {a = Some th_base.choice}) (from_more 61 (refl {a = Some facts.only_one}) from_none), graph_function_proves), ((from_more 62 (refl {a = Some facts.graph_values}) (from_more 63 (refl {a = Some facts.graph_function}) from_none), recursion_from_graph_proves), ((from_more 58 (refl {a = Some facts.graph_at_zero}) (from_more 60 (refl {a = Some facts.graph_at_step}) (from_more 64 (refl {a = Some facts.recursion_from_graph}) (from_more 57 (refl {a = Some facts.recursion_graph}) from_none))), recursion_proves), ((from_more 65 (refl {a = Some facts.recursion}) (from_more 52 (refl {a = Some facts.suc_not_zero}) (from_more 23 (refl {a = Some th_base.unit_equal}) (from_more 53 (refl {a = Some facts.suc_injective}) (from_more 54 (refl {a = Some facts.num_induction}) from_none)))), num_recursion_proves), ((refl, constant_39), ((from_more 14 (refl {a = Some th_base.some_holds}) (from_more 66 (refl {a = Some facts.num_recursion}) from_none), rec_equations_proves), ((from_more 67 (refl {a = Some facts.rec_equations}) from_none, rec_zero_proves), ((from_more 67 (refl {a = Some facts.rec_equations}) from_none, rec_suc_proves), ((refl, constant_40), ((from_none, le_reflexive_proves), ((from_none, le_suc_proves), ((from_none, le_induction_proves), ((from_more 72 (refl {a = Some facts.le_induction}) (from_more 71 (refl {a = Some facts.le_suc}) from_none), le_transitive_proves), ((from_more 72 (refl {a = Some facts.le_induction}) (from_more 71 (refl {a = Some facts.le_suc}) (from_more 70 (refl {a = Some facts.le_reflexive}) from_none)), le_suc_suc_proves), ((from_more 72 (refl {a = Some facts.le_induction}) (from_more 70 (refl {a = Some facts.le_reflexive}) (from_more 71 (refl {a = Some facts.le_suc}) from_none)), le_cases_proves), ((from_more 72 (refl {a = Some facts.le_induction}) (from_more 52 (refl {a = Some facts.suc_not_zero}) from_none), none_below_zero_proves), ((from_more 72 (refl {a = Some facts.le_induction}) (from_more 70 (refl {a = Some facts.le_reflexive}) (from_more 71 (refl {a = Some facts.le_suc}) (from_more 53 (refl {a = Some facts.suc_injective}) from_none))), le_of_sucs_proves), ((from_more 54 (refl {a = Some facts.num_induction}) (from_more 76 (refl {a = Some facts.none_below_zero}) (from_more 75 (refl {a = Some facts.le_cases}) (from_more 77 (refl {a = Some facts.le_of_sucs}) from_none))), strong_induction_proves), tt)))))))))))))))))))))))))))))))))))))))))))) })
+take_steps-requires-clause-fit c = can_take c.requires.defs c.requires.base_facts (record { all = ((refl, constant_33), ((from_more 14 (refl {a = Some th_base.some_holds}) from_none, ind_infinite_proves), ((refl, constant_34), ((from_more 43 (refl {a = Some facts.ind_infinite}) (from_more 10 (refl {a = Some th_base.not_all}) (from_more 14 (refl {a = Some th_base.some_holds}) from_none)), zero_ind_not_suc_proves), ((refl, constant_35), ((from_none, zero_ind_is_num_proves), ((from_none, suc_ind_is_num_proves), ((refl, num_inhabited_shows), ((from_none, num_abs_rep_proves), ((from_none, num_rep_abs_proves), ((from_more 47 (refl {a = Some facts.num_abs_rep}) (from_more 48 (refl {a = Some facts.num_rep_abs}) from_none), rep_is_num_proves), ((refl, constant_37), ((from_more 48 (refl {a = Some facts.num_rep_abs}) (from_more 45 (refl {a = Some facts.zero_ind_is_num}) from_none), rep_zero_proves), ((refl, constant_38), ((from_more 46 (refl {a = Some facts.suc_ind_is_num}) (from_more 49 (refl {a = Some facts.rep_is_num}) (from_more 48 (refl {a = Some facts.num_rep_abs}) from_none)), rep_suc_proves), ((from_more 51 (refl {a = Some facts.rep_suc}) (from_more 50 (refl {a = Some facts.rep_zero}) (from_more 44 (refl {a = Some facts.zero_ind_not_suc}) from_none)), suc_not_zero_proves), ((from_more 51 (refl {a = Some facts.rep_suc}) (from_more 43 (refl {a = Some facts.ind_infinite}) (from_more 47 (refl {a = Some facts.num_abs_rep}) from_none)), suc_injective_proves), ((from_more 49 (refl {a = Some facts.rep_is_num}) (from_more 45 (refl {a = Some facts.zero_ind_is_num}) (from_more 48 (refl {a = Some facts.num_rep_abs}) (from_more 46 (refl {a = Some facts.suc_ind_is_num}) (from_more 47 (refl {a = Some facts.num_abs_rep}) from_none)))), num_induction_proves), ((from_more 54 (refl {a = Some facts.num_induction}) from_none, num_cases_proves), tt))))))))))))))))))) })
 
 pub returns-clause-defs : goal.returns-clause-defs
 returns-clause-defs c = made_to c.in_ok-take_steps.ensures.defs c.requires.defs refl

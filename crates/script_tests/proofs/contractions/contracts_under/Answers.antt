@@ -5,7 +5,7 @@ use Rattle.hol_terms.specs.Logic.{const_T}
 use Rattle.hol_terms.specs.Base.{base}
 use Rattle.script_core.proofs.Closed.{closed_table}
 use Rattle.script_tests.proofs.ListKernel.{Says, side_at}
-use Rattle.script_tests.proofs.contractions.contracts.Goals as goal
+use Rattle.script_tests.proofs.contractions.contracts_under.Goals as goal
 
 said : Says (base 10) (codes "term (\\x0:bool. (\\x1:bool. x1) x0) T\nrefl 0\n") (lam bool_ty (lam bool_ty (ix 0 bool_ty) · ix 0 bool_ty) · const_T)
 unfolding closed_table
