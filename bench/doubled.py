@@ -1,14 +1,16 @@
 #!/usr/bin/env python3
 """Writes proof logs whose types and terms are doubled step by step, and times `hbnf replay` on them.
 
-    python3 bench/doubled.py PROGRAM [--base LOG] [--times 60] [--limit SECONDS] [--show CASE]
+    python3 bench/doubled.py PROGRAM [--base LOG] [--times 60] [--limit SECONDS] [--memory BYTES] [--before] [--show CASE]
 
 Each log is short and names something whose tree has about 2^60 nodes; shared, it has some hundred. Those before the base line stand by
 themselves. Those behind it are put into LOG, which `hbnf log` wrote for the empty text: without `--base` PROGRAM writes it. For each case
 the milliseconds of the fastest of three runs are printed, with the exit code and what was said; a run that takes longer than the limit is
-ended and told as such. With `--show` the log of that case is printed, and nothing is run.
+ended and told as such. Behind the base line a new type of a doubled type is good, and its report would have 2^60 bytes: that run
+ends with status 5 at the limit of memory, which is set for each run. With `--before` only those before the base line are run. With `--show` the log of that case is printed, and nothing is run.
 """
 import argparse
+import resource
 import subprocess
 import sys
 import time
@@ -118,11 +120,12 @@ CASES = {
 }
 
 
-def run(program, log, limit):
+def run(program, log, limit, memory):
     """The seconds of a replay, its exit code and what it said, or None where it took longer than the limit."""
+    bounded = (lambda: resource.setrlimit(resource.RLIMIT_AS, (memory, memory))) if memory else None
     begun = time.perf_counter()
     try:
-        done = subprocess.run([*program, "replay"], input=log, capture_output=True, timeout=limit)
+        done = subprocess.run([*program, "replay"], input=log, capture_output=True, timeout=limit, preexec_fn=bounded)
     except subprocess.TimeoutExpired:
         return None
     return time.perf_counter() - begun, done.returncode, (done.stdout + done.stderr).decode(errors="replace").strip().split("\n")[-1]
@@ -134,26 +137,33 @@ def main():
     arguments.add_argument("--base", help="a log of the empty text, as `hbnf log` writes it")
     arguments.add_argument("--times", type=int, default=60)
     arguments.add_argument("--limit", type=float, default=20)
+    arguments.add_argument("--memory", type=int, default=2**31, help="bytes of address space of a run, or 0 for no limit")
+    arguments.add_argument("--before", action="store_true", help="only the logs before the base line")
     arguments.add_argument("--show", choices=CASES)
     arguments = arguments.parse_args()
-    if arguments.base:
+    if arguments.before or arguments.show:
+        base = ""
+    elif arguments.base:
         with open(arguments.base, encoding="utf-8") as file:
             base = file.read()
     else:
         base = subprocess.run([*arguments.program, "log"], input=b"", capture_output=True, check=True).stdout.decode()
     front = base.split("\n")[:-2]
     for place, lines in (("before the base line", ["hbnf-log 1"]), ("behind it", front)):
+        if place == "behind it" and not front:
+            break
         for name, build in CASES.items():
             log = Log(lines)
             build(log, arguments.times)
             log.end()
             if arguments.show:
-                if arguments.show == name and len(lines) == 1:
+                if arguments.show == name:
                     sys.stdout.write(log.text())
                 continue
-            runs = [run(arguments.program, log.text().encode(), arguments.limit)]
+            again = lambda: run(arguments.program, log.text().encode(), arguments.limit, arguments.memory)
+            runs = [again()]
             if runs[0] is not None:
-                runs += [run(arguments.program, log.text().encode(), arguments.limit) for _ in range(2)]
+                runs += [again() for _ in range(2)]
             told = "more than %g s" % arguments.limit if runs[0] is None else "%7.1f ms  exit %d  %s" % (1000 * min(r[0] for r in runs), runs[0][1], runs[0][2][:80])
             print(f"{name}, {place}: {told}", flush=True)
 

@@ -12,7 +12,7 @@ use Rattle.log_replay.specs.declared.replay.ReplayError.TheVariants.{BadLog, Wri
 use Rattle.log_replay.specs.Lines.{IsAfter, IsFedLine, IsStopped}
 use Rattle.log_replay.proofs.Texts.{lines_with_newline, unended_with_newline, lines_with_byte, unended_with_byte, lines_count, more_lines, lines_begin}
 use Rattle.log_replay.proofs.Feeding.{nothing_fed, bad_in, part_in, reads_count}
-use Rattle.replay_check.specs.InForce.{in_force}
+use Rattle.base_count.specs.InForce.{in_force}
 
 -- the lines among the first bytes were fed, and the bytes from `start` on are behind them
 pub record Standing (log : Text) (at start : ℕ) (s : CheckerState) (old now : Option Text) : Type 0 where

@@ -11,7 +11,7 @@ use Rattle.hol_logs.specs.Log.{unended, line_unless_empty, log_lines, unlines, i
 use Rattle.replay_check.specs.declared.why.Why.{Why as Cause}
 use Rattle.replay_check.specs.declared.why.Why.TheVariants.{Form, Number, Rule, Unfit, Base, Text as Statement, Count, Cut, Endless}
 use Rattle.replay_check.specs.Checked.{CheckerState}
-use Rattle.replay_check.specs.InForce.{in_force}
+use Rattle.base_count.specs.InForce.{in_force}
 use Rattle.log_replay.specs.declared.replay.ReplayError.{ReplayError}
 use Rattle.log_replay.specs.declared.replay.ReplayError.TheVariants.{BadLog, WriteFault, Memory}
 use Rattle.log_replay.specs.Replayed.{IsEndless, IsFaultOf, GainsReport, GainsFaultReport, GainsPart, IfBadLog, IfCut}

@@ -14,7 +14,7 @@ use Rattle.replay_check.specs.declared.why.Why.TheVariants.{Form, Number, Rule, 
 use Rattle.replay_check.specs.Checked.{CheckerState, IsFed, IsFeedError}
 use Rattle.replay_check.specs.declared.checker.FeedError.{FeedError}
 use Rattle.replay_check.specs.declared.checker.FeedError.TheVariants.{BadLine}
-use Rattle.replay_check.specs.InForce.{in_force}
+use Rattle.base_count.specs.InForce.{in_force}
 use Rattle.replay_check.specs.Positions.{reported, cause_of}
 use Rattle.log_replay.specs.declared.replay.ReplayError.{ReplayError}
 use Rattle.log_replay.specs.declared.replay.ReplayError.TheVariants.{BadLog, WriteFault, Memory}

@@ -7,7 +7,7 @@ use Rattle.hol_logs.specs.Position.{LogPosition}
 use Rattle.hol_logs.specs.Log.{unlines, Reads, IsGoodLog, IsBadLog, IsPartOfReport}
 use Rattle.replay_check.specs.declared.why.Why.{Why as Cause}
 use Rattle.replay_check.specs.declared.why.Why.TheVariants.{Endless}
-use Rattle.replay_check.specs.InForce.{in_force}
+use Rattle.base_count.specs.InForce.{in_force}
 use Rattle.replay_check.specs.Positions.{cause_of}
 use Rattle.log_replay.specs.declared.replay.ReplayError.{ReplayError}
 use Rattle.log_replay.specs.declared.replay.ReplayError.TheVariants.{BadLog, WriteFault, Memory}

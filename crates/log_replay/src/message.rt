@@ -4,9 +4,9 @@ ghost use Rattle.std.specs.Prelude.{◌≡◌, ◌++◌, [], ◌∷◌, codes, s
 ghost use Rattle.std.specs.Fmt.{decimal};
 ghost use Rattle.log_replay.specs.Messages.{word_of, bad_log_text};
 
+use itoa::Buffer;
 use replay_check::why::Why;
 use std::alloc::{AllocError, Global};
-use std::fmt::Write;
 
 /// The word for the cause.
 fn word(why: Why) -> &'static str
@@ -28,7 +28,8 @@ fn word(why: Why) -> &'static str
 fn push_number(text: &mut String, number: u64) -> Result<(), AllocError>
     ensures { OnOk result (string_bytes text.new ≡ string_bytes text.old ++ decimal number) }
 {
-    write!(text, "{number}")
+    let mut digits = Buffer::new();
+    text.push_str(digits.format(number))
 }
 
 /// The line `badlog NUMBER WHY` with its newline. The only error is want of memory.

@@ -25,7 +25,7 @@ use Rattle.replay_check.specs.declared.base_texts.BaseKind.TheVariants.{Constant
 use Rattle.replay_check.proofs.Axioms.{axiom_form}
 use Rattle.replay_check.specs.declared.base_texts.BaseText.{BaseText}
 use Rattle.replay_check.specs.BaseTexts.{IsTextOf}
-use Rattle.replay_check.specs.InForce.{in_force}
+use Rattle.base_count.specs.InForce.{in_force}
 use Rattle.replay_check.specs.Definitions.{IsTermText, IsTermOfText}
 
 -- ---- texts of closed terms

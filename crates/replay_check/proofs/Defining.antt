@@ -20,7 +20,7 @@ use Rattle.flat_signatures.specs.FlatNames.{plain_signature, HasSignature}
 use Rattle.replay_check.specs.declared.definitions.FlatDefinition.{FlatDefinition}
 use Rattle.replay_check.specs.declared.definitions.FlatDefinition.TheVariants.{Constant, NewType}
 use Rattle.replay_check.specs.declared.position.Position.{Position}
-use Rattle.replay_check.specs.InForce.{in_force}
+use Rattle.base_count.specs.InForce.{in_force}
 use Rattle.replay_check.specs.Named.{AreNamed}
 use Rattle.replay_check.specs.Definitions.{definition_of, HasDefinition, definitions_of, HasDefinitions, AreSequents, sequents_of, IsTypedDefinition, MayDefine}
 use Rattle.replay_check.specs.Positions.{IsPosition, log_position, Gains, reported, off_base, definition_report, IsDefined, with_definition, IsDefinitionVerdict}

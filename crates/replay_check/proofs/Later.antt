@@ -18,7 +18,7 @@ use Rattle.flat_rules.specs.declared.sequent.FlatSequent.{FlatSequent}
 use Rattle.flat_rules.specs.Sequents.{HasTerms, terms_of, sequent_of, HasSequent}
 use Rattle.replay_check.specs.declared.definitions.FlatDefinition.{FlatDefinition}
 use Rattle.replay_check.specs.declared.definitions.FlatDefinition.TheVariants.{Constant, NewType}
-use Rattle.replay_check.specs.InForce.{in_force}
+use Rattle.base_count.specs.InForce.{in_force}
 use Rattle.replay_check.specs.Definitions.{definition_of, HasDefinition, definitions_of, HasDefinitions, AreSequents, sequents_of}
 use Rattle.replay_check.proofs.BaseReads.{prefix_is, no_axiom, ten_stand}
 

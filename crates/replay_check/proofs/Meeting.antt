@@ -1,10 +1,9 @@
--- Walks over the parts of terms and types.
-use Rattle.std.proofs.Common.{◌≡◌, inl, inr, ℕ, Bool, true, false, ◌||◌, ◌&&◌, if◌then◌else◌, List, [], ◌∷◌, ◌++◌, nat_eq, refl, ap, sym, subst, ◌∙◌, true≢false}
+-- Walks over the parts of terms.
+use Rattle.std.proofs.Common.{◌≡◌, inl, inr, ℕ, Bool, true, false, ◌||◌, if◌then◌else◌, List, [], ◌∷◌, ◌++◌, nat_eq, refl, ap, sym, subst, ◌∙◌, true≢false}
 use Rattle.std.specs.List.{list_any}
 use Rattle.std.proofs.lemmas.Bool.{eqb-true}
 use Rattle.hol_terms.specs.Ty.{Ty}
 use Rattle.hol_terms.specs.Tm.{Tm, tm_comb, tm_abs}
-use Rattle.hol_terms.specs.TyVars.{ty_within, tm_within}
 use Rattle.hol_terms.specs.Definition.{has_frees}
 use Rattle.flat_terms.specs.declared.nodes.TermId.{TermId}
 use Rattle.flat_terms.specs.Plain.{PlainTables, term_of}
@@ -37,9 +36,3 @@ comb_closed n f x e p q = ap has_frees e ∙ (λ j. sym p j || sym q j)
 
 pub abs_closed : (n : Tm) (a : Ty) (b : Tm) → n ≡ tm_abs a b → false ≡ has_frees b → has_frees n ≡ false
 abs_closed n a b e p = ap has_frees e ∙ sym p
-
-pub comb_within : (u : Ty) (n f x : Tm) {a b : Bool} → n ≡ tm_comb f x → a ≡ true → a ≡ tm_within f u → b ≡ true → b ≡ tm_within x u → tm_within n u ≡ true
-comb_within u n f x e s p t q = ap (λ m. tm_within m u) e ∙ (λ j. (sym p ∙ s) j && (sym q ∙ t) j)
-
-pub abs_within : (u : Ty) (n : Tm) (t : Ty) (y : Tm) {a b : Bool} → n ≡ tm_abs t y → a ≡ true → a ≡ ty_within t u → b ≡ true → b ≡ tm_within y u → tm_within n u ≡ true
-abs_within u n t y e s p r q = ap (λ m. tm_within m u) e ∙ (λ j. (sym p ∙ s) j && (sym q ∙ r) j)

@@ -2,6 +2,7 @@
 use Rattle.std.proofs.Common.{◌≡◌, ℕ, ◌+◌, Bool, true, false, cond, not, ◌&&◌, ◌||◌, ◌==◌, List, [], ◌∷◌, ◌++◌, Some, codes, length, nat_lt, refl, sym, ap, ◌∙◌, subst, arith, append-nil}
 use Rattle.std.specs.Prelude.{String, string_bytes, Vec}
 use Rattle.std.specs.Vec.{vec_len}
+use Rattle.std.specs.Fmt.{decimal, digits}
 use Rattle.std.specs.declared.alloc.Global.{Global}
 use Rattle.std.proofs.lemmas.Bool.{not-false}
 use Rattle.std.proofs.lemmas.List.{length-map, length-append, nil_from_length}
@@ -24,7 +25,7 @@ use Rattle.flat_rules.specs.declared.sequent.FlatSequent.{FlatSequent}
 use Rattle.flat_rules.specs.Sequents.{sequent_of}
 use Rattle.replay_check.specs.declared.position.Position.{Position}
 use Rattle.replay_check.specs.declared.why.Verdict.TheVariants.{Good}
-use Rattle.replay_check.specs.InForce.{in_force}
+use Rattle.base_count.specs.InForce.{in_force}
 use Rattle.replay_check.specs.Definitions.{definitions_of, definition_of, sequents_of}
 use Rattle.replay_check.specs.Steps.{is_there, IsAt}
 use Rattle.replay_check.specs.Positions.{log_position, IsPosition, IsInside, IsVerdict}
@@ -76,11 +77,11 @@ whole ds p h =
     let nothing : p.0 ≡ [] = nil_from_length p.0 (omega arith) in
     sym (p.1 ∙ ap (λ m. ds ++ m) nothing ∙ append-nil ds)
 
-thirty_three : numeral 33 ≡ codes "33"
-unfolding numeral
+thirty_three : decimal 33 ≡ numeral 33
+unfolding digits numeral
 thirty_three = refl
 
-pub base_taken : (p : Position) (m : ℕ) (s : String Global) → IsPosition p → IsInside p → p.is_based ≡ false → m ≡ 33 → length p.definitions.items ≡ 33 → string_bytes s ≡ codes "base 33"
+pub base_taken : (p : Position) (m : ℕ) (s : String Global) → IsPosition p → IsInside p → p.is_based ≡ false → m ≡ 33 → length p.definitions.items ≡ 33 → string_bytes s ≡ codes "base " ++ decimal 33
     → IsVerdict p record { tables = p.tables; signature = p.signature; definitions = p.definitions; sequents = p.sequents; lines = p.lines + 1; is_based = true; is_over = p.is_over } (line_base m) (Good (Some s))
 base_taken p m s h i b e k t =
     let ds = definitions_of p.tables p.definitions.items in
@@ -90,7 +91,7 @@ base_taken p m s h i b e k t =
       base_good in_force m (log_position p) (placed p i) good,
       record { signature = h.signature; plain = h.plain; definitions = h.definitions; sequents = h.sequents; named = h.named; stands = ([], all ∙ sym (append-nil (base in_force))) },
       position_is (log_position p) (line_base m) (adds_nothing ds) (adds_nothing (sequents_of p.tables p.sequents.items)) (omega arith) (sym (ap (λ b. b || true) b)) (or_false p.is_over),
-      ap (λ x. x ∷ []) (t ∙ ap (λ x. codes "base " ++ x) (sym thirty_three) ∙ ap (λ n. codes "base " ++ numeral n) (sym e)),
+      ap (λ x. x ∷ []) (t ∙ ap (λ x. codes "base " ++ x) thirty_three ∙ ap (λ n. codes "base " ++ numeral n) (sym e)),
     )
 
 -- ---- named theorems

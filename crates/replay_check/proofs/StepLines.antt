@@ -29,7 +29,7 @@ use Rattle.flat_lines.specs.Lines.{IsFlatStep}
 use Rattle.replay_check.specs.declared.definitions.FlatDefinition.{FlatDefinition}
 use Rattle.replay_check.specs.declared.position.Position.{Position}
 use Rattle.replay_check.specs.declared.why.Verdict.TheVariants.{Good}
-use Rattle.replay_check.specs.InForce.{in_force}
+use Rattle.base_count.specs.InForce.{in_force}
 use Rattle.replay_check.specs.Named.{AreNamed}
 use Rattle.replay_check.specs.Definitions.{definitions_of, HasDefinitions, AreSequents, sequents_of, IsBooleanAnswer}
 use Rattle.replay_check.specs.Steps.{is_there, flat_premises}

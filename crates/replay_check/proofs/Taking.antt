@@ -35,7 +35,7 @@ use Rattle.flat_signatures.proofs.Signatures.{signature_there, signature_same}
 use Rattle.replay_check.specs.declared.position.Position.{Position}
 use Rattle.replay_check.specs.declared.why.Verdict.{Verdict}
 use Rattle.replay_check.specs.declared.why.Verdict.TheVariants.{Good, Bad}
-use Rattle.replay_check.specs.InForce.{in_force}
+use Rattle.base_count.specs.InForce.{in_force}
 use Rattle.replay_check.specs.Named.{AreNamed}
 use Rattle.replay_check.specs.Positions.{log_position, IsPosition, IsInside, IsLineRead, Gains, IsVerdict, IsTaken, cause_of, reported}
 use Rattle.replay_check.proofs.Later.{definitions_same, definitions_stay, sequents_same, sequents_stay}

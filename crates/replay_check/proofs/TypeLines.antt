@@ -18,7 +18,7 @@ use Rattle.flat_instances.specs.TablesGrow.{TablesGrow}
 use Rattle.replay_check.specs.declared.position.Position.{Position}
 use Rattle.replay_check.specs.declared.why.Verdict.{Verdict}
 use Rattle.replay_check.specs.declared.why.Verdict.TheVariants.{Good, Bad}
-use Rattle.replay_check.specs.InForce.{in_force}
+use Rattle.base_count.specs.InForce.{in_force}
 use Rattle.replay_check.specs.Definitions.{is_unfit_type_over, IsPredicate, IsPredicateType}
 use Rattle.replay_check.specs.Positions.{IsPosition, IsInside, log_position, Gains, cause_of, off_base, definition_report, with_definition, IsDefinitionVerdict, IsVerdict}
 use Rattle.replay_check.proofs.Verdicts.{type_unfit, type_early, type_good, or_false}

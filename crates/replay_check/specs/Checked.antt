@@ -10,7 +10,7 @@ use Rattle.replay_check.specs.declared.why.Why.{Why as Cause}
 use Rattle.replay_check.specs.declared.why.Why.TheVariants.{Form, Number, Rule, Unfit, Base, Text as Statement, Count, Cut, Endless}
 use Rattle.replay_check.specs.declared.checker.FeedError.{FeedError}
 use Rattle.replay_check.specs.declared.checker.FeedError.TheVariants.{BadLine, Memory}
-use Rattle.replay_check.specs.InForce.{in_force}
+use Rattle.base_count.specs.InForce.{in_force}
 use Rattle.replay_check.specs.Positions.{reported, cause_of}
 
 pub record CheckerState : Type 0 where

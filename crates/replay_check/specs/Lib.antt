@@ -1,7 +1,6 @@
 pub mod BaseTexts
 pub mod Named
 pub mod Walks
-pub mod InForce
 pub mod Definitions
 pub mod Steps
 pub mod Bridges

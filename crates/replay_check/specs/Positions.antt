@@ -18,7 +18,7 @@ use Rattle.replay_check.specs.declared.why.Verdict.{Verdict}
 use Rattle.replay_check.specs.declared.why.Verdict.TheVariants.{Good, Bad}
 use Rattle.replay_check.specs.declared.position.Position.{Position}
 use Rattle.replay_check.specs.Named.{AreNamed}
-use Rattle.replay_check.specs.InForce.{in_force}
+use Rattle.base_count.specs.InForce.{in_force}
 use Rattle.replay_check.specs.Definitions.{definitions_of, HasDefinitions, AreSequents, sequents_of}
 
 -- what the lines so far gave

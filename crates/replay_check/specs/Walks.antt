@@ -1,8 +1,6 @@
 -- What is known of terms that a walk has passed.
-use Rattle.std.specs.Prelude.{◌≡◌, true, false, List, [], ◌∷◌}
-use Rattle.hol_terms.specs.Ty.{Ty}
+use Rattle.std.specs.Prelude.{◌≡◌, false, List, [], ◌∷◌}
 use Rattle.hol_terms.specs.Tm.{Tm}
-use Rattle.hol_terms.specs.TyVars.{tm_within}
 use Rattle.hol_terms.specs.Definition.{has_frees}
 use Rattle.flat_terms.specs.Plain.{PlainTables, term_of}
 use Rattle.flat_terms.specs.declared.nodes.TermId.{TermId}
@@ -13,6 +11,3 @@ AllMeet P t (n ∷ ns) = P (term_of t n) × AllMeet P t ns
 
 abbrev pub IsClosed : Tm → Type 0
 IsClosed t = has_frees t ≡ false
-
-abbrev pub IsWithin : Ty → Tm → Type 0
-IsWithin u t = tm_within t u ≡ true

@@ -12,10 +12,11 @@ ghost use Rattle.flat_rules.specs.Sequents.{IsAnswer};
 ghost use Rattle.flat_signatures.specs.FlatNames.{plain_signature, HasSignature};
 ghost use Rattle.flat_lines.specs.Numbers.{IsNumber};
 ghost use Rattle.replay_check.specs.Definitions.{definition_of, definitions_of, HasDefinition, IsPut, IsAxiomText, IsBooleanAnswer, IsTermText, IsTermOfText};
-ghost use Rattle.replay_check.specs.InForce.{in_force};
+ghost use Rattle.base_count.specs.InForce.{in_force};
 
 use crate::base_texts::{BaseKind, axiom_text, base_text};
 use crate::definitions::{FlatDefinition, are_same};
+use base_count::BASE_DEFINITIONS;
 use flat_lines::numbers::Number;
 use flat_reading::terms::read_term;
 use flat_rules::sequent::FlatSequent;
@@ -24,9 +25,6 @@ use flat_signatures::signature::FlatSignature;
 use flat_terms::nodes::TermId;
 use flat_terms::tables::Tables;
 use std::alloc::{AllocError, Global};
-
-/// How many base definitions are in force.
-pub const BASE_DEFINITIONS: usize = 33;
 
 /// The number of the closed term that has the text. After want of memory the tables may have more entries.
 fn put_term(

@@ -10,20 +10,24 @@ use crate::position::Position;
 use crate::why::{Verdict, Why};
 use std::alloc::{AllocError, Global};
 use std::marker::Model;
+use thiserror::Error;
 
 /// Why a line was not taken.
-#[derive(Clone, Copy, Debug)]
+#[derive(Clone, Copy, Debug, Error)]
 pub enum FeedError {
     /// The line of that number, counted from 1, is bad.
+    #[error("line {number} of the log is bad")]
     BadLine { number: u64, why: Why },
     /// Memory was refused.
+    #[error("out of memory")]
     Memory,
 }
 
 /// Why a log is bad though each of its lines is good.
-#[derive(Clone, Copy, Debug)]
+#[derive(Clone, Copy, Debug, Error)]
 pub enum FinishError {
     /// It ends before a last line. The number, counted from 1, is that of the line that would be next.
+    #[error("the log ends before its line {number}")]
     Cut { number: u64 },
 }
 

@@ -13,9 +13,10 @@ ghost use Rattle.flat_signatures.specs.FlatNames.{plain_signature, HasSignature}
 ghost use Rattle.replay_check.specs.Bridges.{AreBridgeTypes, AreBridgeNames, with_bridge};
 ghost use Rattle.replay_check.specs.Definitions.{definition_of, HasDefinition, IsPredicate, IsPredicateType, IsTypedDefinition, MayDefine, is_unfit_const_over, count_of};
 
-use crate::walks::{has_frees, is_within};
+use crate::walks::has_frees;
 use flat_rules::definitions::{constant_sequent, make_new_type, type_sequents};
 use flat_rules::sequent::FlatSequent;
+use flat_rules::variables::is_within;
 use flat_signatures::entries::{put_dotted, put_function};
 use flat_signatures::signature::FlatSignature;
 use flat_terms::nodes::{NameId, TermId, TermView, TypeId, TypeView};

@@ -11,5 +11,3 @@ mod reports;
 mod steps;
 mod walks;
 pub mod why;
-
-pub use bases::BASE_DEFINITIONS;

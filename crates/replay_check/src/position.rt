@@ -9,16 +9,17 @@ ghost use Rattle.flat_terms.specs.Plain.{HasName, HasTerm, name_of, term_of};
 ghost use Rattle.flat_signatures.specs.FlatNames.{plain_signature};
 ghost use Rattle.flat_lines.specs.Lines.{IsFlatStep, IsFlatLine, IsStop};
 ghost use Rattle.flat_lines.specs.Numbers.{IsNumber};
-ghost use Rattle.replay_check.specs.InForce.{in_force};
+ghost use Rattle.base_count.specs.InForce.{in_force};
 ghost use Rattle.replay_check.specs.Definitions.{definition_of, HasDefinition, MayDefine};
 ghost use Rattle.replay_check.specs.Steps.{IsStepRead};
 ghost use Rattle.replay_check.specs.Positions.{IsPosition, IsInside, IsDefined, IsDefinitionVerdict, log_position, IsVerdict, IsTaken, IsLineRead, Gains, reported, definition_report, off_base};
 
-use crate::bases::{BASE_DEFINITIONS, is_next_base};
+use crate::bases::is_next_base;
 use crate::definitions::{FlatDefinition, fit_predicate, introduce, is_unfit_constant, says};
-use crate::reports::{definition_line, joined, theorem_line};
+use crate::reports::{base_line, definition_line, joined, theorem_line};
 use crate::steps::{give, is_beyond, lacks_a_premise, sequent};
 use crate::why::{Verdict, Why};
+use base_count::BASE_DEFINITIONS;
 use flat_lines::lines::{FlatLine, read_line};
 use flat_lines::numbers::Number;
 use flat_lines::steps::FlatStep;
@@ -275,7 +276,7 @@ impl Position {
         if self.is_based || !is_base_count(count) || self.definitions.len() != BASE_DEFINITIONS {
             return Ok(Verdict::Bad(Why::Base));
         }
-        let line = String::from_str(alloc, "base 33")?;
+        let line = base_line(alloc, BASE_DEFINITIONS)?;
         self.is_based = true;
         self.lines += 1;
         Ok(Verdict::Good(Some(line)))

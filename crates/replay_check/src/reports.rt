@@ -1,6 +1,7 @@
 //! Lines of a report.
 
-ghost use Rattle.std.specs.Prelude.{◌≡◌, ◌++◌, IfOk, string_bytes, true};
+ghost use Rattle.std.specs.Prelude.{◌≡◌, ◌++◌, codes, IfOk, string_bytes, true};
+ghost use Rattle.std.specs.Fmt.{decimal};
 ghost use Rattle.std.specs.Str.{is_utf8};
 ghost use Rattle.hol_terms.specs.Definition.{const_def, type_def};
 ghost use Rattle.hol_terms.specs.Text.{definition_line, theorem_line};
@@ -13,6 +14,7 @@ use flat_printing::lines::{push_constant_line, push_theorem_line, push_type_line
 use flat_rules::definitions::make_new_type;
 use flat_terms::nodes::{NameId, TermId};
 use flat_terms::tables::Tables;
+use itoa::Buffer;
 use std::alloc::{AllocError, Global};
 
 /// The line of a definition. After want of memory the tables may have more entries.
@@ -91,5 +93,15 @@ pub(crate) fn joined(alloc: Global, front: &str, text: &[u8]) -> Result<String, 
     };
     let mut line = String::from_str(alloc, front)?;
     line.push_str(text)?;
+    Ok(line)
+}
+
+/// The line of the base definitions, by their number.
+pub(crate) fn base_line(alloc: Global, count: usize) -> Result<String, AllocError>
+    ensures { IfOk result (λ s. string_bytes s ≡ codes "base " ++ decimal count) }
+{
+    let mut digits = Buffer::new();
+    let mut line = String::from_str(alloc, "base ")?;
+    line.push_str(digits.format(count))?;
     Ok(line)
 }

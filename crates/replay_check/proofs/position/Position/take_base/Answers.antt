@@ -15,4 +15,4 @@ returns-then-self c = λ m i. elim c.then-self.branch [
 pub returns : goal.returns
 returns c = λ m i.
     base_taken c.args.self.now m c.in_ok-line.line c.requires.position c.requires.inside c.if-self.false (eqb-true m 33 (sym (c.is_base_count.ensures m i) ∙ c.if-not-is_base_count.false))
-    (sym c.args.self.now.definitions.ok.0 ∙ sym c.len.ensures ∙ c.if-len-ne-BASE_DEFINITIONS.false) c.in_ok-line.ensures.ok
+    (sym c.args.self.now.definitions.ok.0 ∙ sym c.len.ensures ∙ c.if-len-ne-BASE_DEFINITIONS.false) c.in_ok-line.ensures

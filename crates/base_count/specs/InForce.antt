@@ -1,5 +1,6 @@
 -- How many base definitions are in force.
 use Rattle.std.specs.Prelude.{ℕ}
+use Rattle.base_count.specs.declared.TheConstants.{BASE_DEFINITIONS}
 
 abbrev pub in_force : ℕ
-in_force = 33
+in_force = BASE_DEFINITIONS
