@@ -1,13 +1,12 @@
 -- What is there after steps.
-use Rattle.std.proofs.Common.{◌≡◌, ℕ, zero, suc, true, nat_lt, ⊎_elim, Contains, map, ◌+◌, ◌<◌, ◌≤◌, arith, length, drop, get_or, Bor, refl, sym, ap, ◌∙◌, subst, List, [], ◌∷◌, ◌++◌, Some, slice_get, take}
-use Rattle.std.proofs.lemmas.List.{append-nil, append_assoc, take-take, take-append-drop, take_more, map_push, length-map, get_or-map}
+use Rattle.std.proofs.Common.{◌≡◌, ℕ, zero, suc, ⊎_elim, Contains, map, ◌+◌, ◌<◌, ◌≤◌, arith, length, get_or, Bor, refl, sym, ap, ◌∙◌, subst, List, [], ◌∷◌, ◌++◌, Some, slice_get, take}
+use Rattle.std.proofs.lemmas.List.{append-nil, append_assoc, take_more, map_push, length-map, get_or-map}
 use Rattle.std.proofs.lemmas.Option.{slice_get-get_or}
 use Rattle.std.proofs.lemmas.List.Elements.{All-nil, All-map, All-append, All-contains, Contains-append_left, Contains-get_or, Contains-push, Contains-push_cases}
-use Rattle.std.proofs.lemmas.Bool.{ltb-true}
-use Rattle.hol_terms.specs.Base.{base, base_definitions}
+use Rattle.hol_terms.specs.Base.{base}
 use Rattle.hol_terms.specs.Definition.{Definition}
 use Rattle.hol_terms.specs.Text.{Text}
-use Rattle.hol_kernel.specs.State.{State, Theorem, Grows}
+use Rattle.hol_kernel.specs.State.{State, Theorem}
 use Rattle.library_facts.specs.declared.fact.Fact.{Fact}
 use Rattle.library_facts.specs.Facts.{statement_of, statements_of}
 use Rattle.kernel_lines.specs.Bases.{HasBase}

@@ -1,5 +1,5 @@
 -- What is on a shelf.
-use Rattle.std.proofs.Common.{◌≡◌, ◌≢◌, ℕ, suc, ◌+◌, ◌<◌, ◌≤◌, ◌-◌, add-one, arith, refl, sym, ap, ◌∙◌, subst, List, [], ◌∷◌, ◌++◌, All, length, map, take, drop, get_or}
+use Rattle.std.proofs.Common.{◌≡◌, ◌≢◌, ℕ, suc, ◌<◌, ◌≤◌, ◌-◌, arith, refl, sym, ap, ◌∙◌, subst, List, [], ◌∷◌, ◌++◌, All, length, take, drop, get_or}
 use Rattle.std.proofs.lemmas.List.{get_or_default, take-append-drop, map-append, map_push, length-map, get_or-map}
 use Rattle.std.proofs.lemmas.List.Elements.{All-push, All-cons, All-map, All-contains, All-head, All-tail, All-get_or}
 use Rattle.std.proofs.Math.Seq.{drop-cons}

@@ -1,5 +1,5 @@
 -- The registers along a table, and its end.
-use Rattle.std.proofs.Common.{◌≡◌, ℕ, suc, ◌+◌, ◌<◌, ◌≤◌, All, add-one, get_or, refl, sym, ap, ◌∙◌, subst, List, [], ◌∷◌, ◌++◌, length, drop, map, Option, Some, None, IsSome, append_assoc}
+use Rattle.std.proofs.Common.{◌≡◌, ℕ, suc, ◌+◌, ◌<◌, ◌≤◌, All, add-one, get_or, refl, sym, ap, ◌∙◌, subst, List, [], ◌∷◌, ◌++◌, length, drop, map, Option, Some, None, IsSome}
 use Rattle.std.specs.Option.{option_to_list}
 use Rattle.std.specs.Borrow.{Bor}
 use Rattle.std.proofs.lemmas.List.{map_push, drop_all, map-append}
@@ -17,7 +17,7 @@ use Rattle.hol_terms.specs.Reading.{reading_of_type, reading_of_term}
 use Rattle.hol_text.specs.Over.{GivesTypes}
 use Rattle.text_laws.proofs.Given.{gives_types}
 use Rattle.hol_kernel.specs.State.{State, Theorem, Has, Grows}
-use Rattle.kernel_lines.specs.Lines.{on, last}
+use Rattle.kernel_lines.specs.Lines.{on}
 use Rattle.kernel_lines.specs.Ready.{behind, sequents, AllOver, AllHad}
 use Rattle.kernel_lines.proofs.Had.{last_push, had_last}
 use Rattle.nd_rules.proofs.Keeping.{rules_grow}

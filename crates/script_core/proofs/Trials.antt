@@ -1,9 +1,8 @@
 -- Closed tables compute: the form in which a table's function proves that its table fits.
-use Rattle.std.proofs.Common.{◌≡◌, refl, [], ◌∷◌, List, Option, Some, IsSome, codes}
-use Rattle.hol_terms.specs.Definition.{Definition}
+use Rattle.std.proofs.Common.{◌≡◌, refl, [], ◌∷◌, Some, codes}
 use Rattle.hol_terms.specs.Base.{base}
-use Rattle.hol_terms.specs.Sequent.{Sequent, seq, eq_tm}
-use Rattle.hol_terms.specs.Logic.{const_T, const_conj}
+use Rattle.hol_terms.specs.Sequent.{seq, eq_tm}
+use Rattle.hol_terms.specs.Logic.{const_T}
 use Rattle.script_core.specs.Steps.{Registers}
 use Rattle.script_core.specs.Tables.{run, table_sequent, fact_sequent}
 use Rattle.std.specs.Str.Lines.{lines}

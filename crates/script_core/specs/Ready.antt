@@ -1,6 +1,5 @@
 -- What a table needs of the kernel and of what is given.
 use Rattle.std.specs.Prelude.{◌≡◌, List, [], ◌∷◌, ◌++◌, IsSome, All, Some}
-use Rattle.std.specs.Borrow.{Bor}
 use Rattle.hol_terms.specs.Ty.{Ty}
 use Rattle.hol_terms.specs.Tm.{Tm}
 use Rattle.hol_terms.specs.Subst.{TySubst}

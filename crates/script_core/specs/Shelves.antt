@@ -1,5 +1,5 @@
 -- What is on a shelf: facts, each by its text, and their theorems, in the order of putting.
-use Rattle.std.specs.Prelude.{◌≡◌, ◌≢◌, List, [], ◌∷◌, ◌++◌, All, Contains, Some, map}
+use Rattle.std.specs.Prelude.{◌≡◌, ◌≢◌, List, ◌∷◌, ◌++◌, All, Contains, Some, map}
 use Rattle.library_facts.specs.declared.fact.Fact.{Fact}
 use Rattle.library_facts.specs.Facts.{statement_of}
 use Rattle.hol_terms.specs.Text.{Text}

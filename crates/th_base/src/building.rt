@@ -15,7 +15,12 @@ use script_core::Shelf;
 use std::alloc::{AllocError, Global};
 
 /// Builds the part on logic, choice, the identity and the conditional.
-fn build_logic(alloc: Global, k: &mut Kernel, rules: &Rules, s: &mut Shelf) -> Result<(), AllocError>
+fn build_logic(
+    alloc: Global,
+    k: &mut Kernel,
+    rules: &Rules,
+    s: &mut Shelf,
+) -> Result<(), AllocError>
     requires rules { HasRules k.old rules.now }
     requires defs { k.old.defs ≡ base 10 }
     requires shelf { ShelfHad k.old s.old }
@@ -30,7 +35,12 @@ fn build_logic(alloc: Global, k: &mut Kernel, rules: &Rules, s: &mut Shelf) -> R
 }
 
 /// Builds the part on unit and products.
-fn build_products(alloc: Global, k: &mut Kernel, rules: &Rules, s: &mut Shelf) -> Result<(), AllocError>
+fn build_products(
+    alloc: Global,
+    k: &mut Kernel,
+    rules: &Rules,
+    s: &mut Shelf,
+) -> Result<(), AllocError>
     requires rules { HasRules k.old rules.now }
     requires defs { k.old.defs ≡ base 12 }
     requires logic_facts { AreOn s.old logic_facts }

@@ -1,4 +1,3 @@
-use Rattle.std.proofs.Common.{◌∙◌, ap, sym}
 use Rattle.script_core.proofs.ShelfLemmas.{shelved_push, stated_push}
 use Rattle.script_core.proofs.shelf.Shelf.put.Goals as goal
 
