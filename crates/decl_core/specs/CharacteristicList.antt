@@ -2,7 +2,7 @@
 use Rattle.std.specs.Prelude.{Bool, if◌then◌else◌, List, [], ◌++◌, flat_map}
 use Rattle.std.specs.List.{list_any}
 use Rattle.decl_core.specs.Declaration.{Decl}
-use Rattle.decl_core.specs.Statements.{Fact, when}
+use Rattle.decl_core.specs.Statements.{Fact}
 use Rattle.decl_core.specs.FreeConstructors.{free_constructor_facts}
 use Rattle.decl_core.specs.Functors.{Lives, lives_of}
 use Rattle.decl_core.specs.FunctorFacts.{functor_facts}

@@ -1,6 +1,6 @@
 -- The facts that a declared type shares with every type that has free constructors: on its constructors, its case function, its
 -- discriminators and its selectors. In the comments T is the type, C and D are constructors of it, and xs are the arguments of one.
-use Rattle.std.specs.Prelude.{ℕ, ◌+◌, ◌==◌, ◌&&◌, not, length, Bool, false, List, [], ◌∷◌, ◌++◌, map, flat_map, Option, Some, None, unwrap_or, is_some, if◌then◌else◌, bytes_eq, codes}
+use Rattle.std.specs.Prelude.{ℕ, ◌==◌, ◌&&◌, not, length, Bool, List, [], ◌∷◌, ◌++◌, map, flat_map, unwrap_or, is_some, if◌then◌else◌, bytes_eq, codes}
 use Rattle.std.specs.List.{list_all}
 use Rattle.hol_terms.specs.Name.{Name}
 use Rattle.hol_terms.specs.Tm.{Tm, FreeVar, tm_free}

@@ -6,7 +6,7 @@ use Rattle.hol_terms.specs.Ty.{Ty, ty_var, ty_app, tys}
 use Rattle.hol_terms.specs.Tm.{Tm, FreeVar, tm_free}
 use Rattle.hol_terms.specs.Typing.{domain_ty, range_ty}
 use Rattle.hol_terms.specs.Subst.{TySubst, ty_subst}
-use Rattle.hol_terms.specs.Notation.{◌⇒◌, ◌·◌}
+use Rattle.hol_terms.specs.Notation.{◌·◌}
 use Rattle.hol_terms.specs.Rules.{lambda}
 use Rattle.hol_terms.specs.Base.{const_id, const_fst, const_snd, const_fun_map, const_countable}
 use Rattle.stmt_core.specs.Formulas.{conj_of, disj_of, imp_of, all_of, ex_of}

@@ -1,7 +1,6 @@
 -- Recursion over the datatypes of a group, and corecursion into its codatatypes. In the comments T1, T2 and so on are the types of the
 -- group, l is one of them, and its results have the type 'xl.
 use Rattle.std.specs.Prelude.{ℕ, zero, suc, List, [], ◌∷◌, ◌++◌, ◌+◌, length, if◌then◌else◌, map, flat_map, decimal, codes}
-use Rattle.hol_terms.specs.Name.{Name}
 use Rattle.hol_terms.specs.Ty.{Ty, ty_var, ty_app, Tys, no_tys, more_tys}
 use Rattle.hol_terms.specs.Tm.{Tm, FreeVar, tm_free}
 use Rattle.hol_terms.specs.Typing.{tm_type}

@@ -27,12 +27,14 @@ impl Model for Argument {
 }
 
 impl Argument {
+    /// The argument of the type, under the selector if there is one.
     pub fn new(selector: Option<String>, ty: HolType) -> Argument
         ensures { result ≡ record { selector = option_map string_bytes selector; ty = ty } }
     {
         Argument { selector, ty }
     }
 
+    /// The selector's name, or None where the argument has none.
     pub fn selector(&self) -> Option<&str>
         ensures { MatchOption result (self.now.selector ≡ None) (λ s. self.now.selector ≡ Some s.now) }
     {
@@ -42,6 +44,7 @@ impl Argument {
         }
     }
 
+    /// The type of the argument.
     pub fn ty(&self) -> &HolType
         ensures { result.now ≡ self.now.ty }
     {
@@ -68,18 +71,21 @@ impl Model for Constructor {
 }
 
 impl Constructor {
+    /// The constructor of the name, with these arguments in order.
     pub fn new(name: String, args: Vec<Argument>) -> Constructor
         ensures { result ≡ record { name = string_bytes name; args = args.items } }
     {
         Constructor { name, args }
     }
 
+    /// The name.
     pub fn name(&self) -> &str
         ensures { result.now ≡ self.now.name }
     {
         self.name.as_str()
     }
 
+    /// The arguments, in order.
     pub fn args(&self) -> &[Argument]
         ensures { result.now ≡ self.now.args }
     {
@@ -121,7 +127,7 @@ impl Model for Declaration {
 }
 
 impl Declaration {
-    /// The declaration of the type `name` with these parameters.
+    /// The declaration of the type `name` with these parameters. An error says that memory was refused.
     pub fn new(
         alloc: Global,
         params: Vec<String>,
@@ -140,18 +146,21 @@ impl Declaration {
         })
     }
 
+    /// The parameters, in order and without their quotes.
     pub fn params(&self) -> &[String]
         ensures { map string_bytes result.now ≡ self.now.params }
     {
         &self.params
     }
 
+    /// The name.
     pub fn name(&self) -> &str
         ensures { result.now ≡ self.now.name }
     {
         self.name.as_str()
     }
 
+    /// The constructors, in order.
     pub fn ctors(&self) -> &[Constructor]
         ensures { result.now ≡ self.now.ctors }
     {

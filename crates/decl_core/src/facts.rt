@@ -22,18 +22,21 @@ impl Model for NamedFact {
 }
 
 impl NamedFact {
+    /// The statement under the name.
     pub fn new(name: String, statement: Term) -> NamedFact
         ensures { result ≡ (string_bytes name, statement) }
     {
         NamedFact { name, statement }
     }
 
+    /// The name.
     pub fn name(&self) -> &str
         ensures { result.now ≡ self.now.0 }
     {
         self.name.as_str()
     }
 
+    /// The term that the fact states.
     pub fn statement(&self) -> &Term
         ensures { result.now ≡ self.now.1 }
     {

@@ -2,9 +2,8 @@
 use Rattle.std.proofs.Common.{◌≡◌, ℕ, zero, suc, ◌+◌, ◌<◌, ◌≤◌, drop, ◌∙◌, sym, List, [], ◌∷◌, ◌++◌, map, length, take, get_or, ap, refl, arith, add-one}
 use Rattle.std.proofs.lemmas.List.{get_or-map, length-map}
 use Rattle.hol_terms.specs.Ty.{Ty, ty_var}
-use Rattle.hol_terms.specs.Tm.{Tm, FreeVar, tm_free}
+use Rattle.hol_terms.specs.Tm.{Tm, FreeVar}
 use Rattle.hol_terms.specs.Typing.{tm_type, fun_ty, range_ty}
-use Rattle.hol_terms.specs.Takes.{Takes}
 use Rattle.hol_terms.specs.Notation.{◌·◌}
 use Rattle.hol_terms.specs.TyVars.{own_const}
 use Rattle.hol_terms.specs.Name.{Name}

@@ -1,5 +1,5 @@
 -- Lists of formulas, made one at a time.
-use Rattle.std.proofs.Common.{◌≡◌, List, [], ◌∷◌, ◌++◌}
+use Rattle.std.proofs.Common.{List, [], ◌∷◌, ◌++◌}
 use Rattle.hol_terms.specs.Tm.{Tm}
 use Rattle.hol_terms.specs.Loose.{IsClosedAt}
 use Rattle.stmt_core.specs.Formulas.{IsBoolean, AreBoolean, HaveNoLoose}

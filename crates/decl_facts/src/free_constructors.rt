@@ -48,7 +48,8 @@ fn push_on_selectors(
     push_collapse_facts(alloc, decl, facts)
 }
 
-/// Adds the facts on the constructors, the case function, the discriminators and the selectors of the type, in this order.
+/// Adds the facts on the constructors, the case function, the discriminators and the selectors of the type, in this order. An error
+/// says that memory was refused; some of the facts may then be there.
 #[tactic(auto, using(crate::proofs::Numbered::append_lemmas))]
 pub fn push_free_constructor_facts(
     alloc: Global,

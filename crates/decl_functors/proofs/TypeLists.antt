@@ -1,9 +1,9 @@
 -- Lists of types and of names, a member at a time.
-use Rattle.std.proofs.Common.{◌≡◌, ℕ, zero, suc, ◌+◌, ◌<◌, ◌≤◌, Bool, true, false, ◌&&◌, ◌||◌, List, [], ◌∷◌, length, get_or, drop, refl, arith, add-one, drop-cons, drop_of_length-le, ◌==◌, cond, bytes_eq, if◌then◌else◌, Option, Some, None}
+use Rattle.std.proofs.Common.{◌≡◌, ℕ, suc, ◌+◌, ◌<◌, ◌≤◌, Bool, true, false, ◌&&◌, ◌||◌, List, [], ◌∷◌, length, get_or, drop, refl, arith, add-one, drop-cons, drop_of_length-le, ◌==◌, cond, bytes_eq, if◌then◌else◌, Some, None}
 use Rattle.std.specs.Option.{unwrap_or}
 use Rattle.hol_terms.specs.Signature.{entry_at}
 use Rattle.hol_terms.specs.Name.{Name}
-use Rattle.hol_terms.specs.Ty.{Ty, ty_var, ty_app, tys, ty_size, tys_size}
+use Rattle.hol_terms.specs.Ty.{Ty, ty_var, ty_app, tys}
 use Rattle.hol_terms.specs.Tm.{Tm}
 use Rattle.hol_terms.proofs.Lists.{ty_size-at}
 use Rattle.decl_core.specs.Functors.{Names, Lives, same_type, has_name, any_has_name, has_names, term_for, lives_of}

@@ -1,5 +1,5 @@
 -- `datatype ('a,'b,'c,'d) q = Q 'a 'b ('c cset) (num -> 'd);` and its facts in canonical text.
-use Rattle.std.specs.Prelude.{List, [], ◌∷◌, Some, None, codes}
+use Rattle.std.specs.Prelude.{List, [], ◌∷◌, None, codes}
 use Rattle.hol_terms.specs.Ty.{ty_var, ty_app, tys}
 use Rattle.hol_terms.specs.Notation.{◌⇒◌}
 use Rattle.hol_terms.specs.Text.{Text}

@@ -1,7 +1,6 @@
 -- `datatype 'a list = Nil | Cons (hd : 'a) (tl : 'a list);` and its facts in canonical text.
-use Rattle.std.specs.Prelude.{List, [], ◌∷◌, Some, None, codes}
+use Rattle.std.specs.Prelude.{List, [], ◌∷◌, Some, codes}
 use Rattle.hol_terms.specs.Ty.{ty_var, ty_app, tys}
-use Rattle.hol_terms.specs.Notation.{◌⇒◌}
 use Rattle.hol_terms.specs.Text.{Text}
 use Rattle.decl_core.specs.Declaration.{Decl}
 use Rattle.decl_core.specs.Statements.{Fact}

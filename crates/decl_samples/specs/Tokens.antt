@@ -1,6 +1,6 @@
 -- `datatype tok = Num num | Plus | Times | Open | Close | Name (num -> bool);` and its facts in canonical text.
-use Rattle.std.specs.Prelude.{List, [], ◌∷◌, Some, None, codes}
-use Rattle.hol_terms.specs.Ty.{ty_var, ty_app, tys}
+use Rattle.std.specs.Prelude.{List, [], ◌∷◌, None, codes}
+use Rattle.hol_terms.specs.Ty.{ty_app, tys}
 use Rattle.hol_terms.specs.Notation.{◌⇒◌}
 use Rattle.hol_terms.specs.Text.{Text}
 use Rattle.decl_core.specs.Declaration.{Decl}

@@ -1,7 +1,7 @@
 use Rattle.std.proofs.Common.{◌≡◌, drop, map}
 use Rattle.std.specs.List.{list_any}
 use Rattle.decl_core.specs.Declaration.{type_of}
-use Rattle.decl_core.specs.Liveness.{dead_in_ctor, dead_in_decl}
+use Rattle.decl_core.specs.Liveness.{dead_in_ctor}
 use Rattle.decl_functors.proofs.liveness.is_dead_in_decl.Given as goal
 
 abbrev pub invariant-loop-ctor : goal.invariant-loop-ctor
