@@ -108,8 +108,8 @@ fn each_fact_is_proved(rt: HostRuntime) -> Result<(), Fail> {
     let alloc = rt.alloc();
     let Built { kernel, shelf, .. } = first(alloc)?;
     assert_eq!(rt; kernel.defs().len(), 33);
-    // The steps of the kernel that the start of `hbnf` takes.
-    assert_eq!(rt; kernel.steps().len(), 37_564);
+    // The steps of the kernel that the start of `hbnf` takes are few.
+    assert!(rt; kernel.steps().len() < 5_000);
     assert!(rt; are_proved(alloc, &shelf, th_base::facts::FACTS)?);
     Ok(())
 }
@@ -119,7 +119,7 @@ fn numbers_are_built(rt: HostRuntime) -> Result<(), Fail> {
     let alloc = rt.alloc();
     let Built { kernel, shelf, .. } = with_numbers(alloc)?;
     assert_eq!(rt; kernel.defs().len(), 43);
-    assert_eq!(rt; kernel.steps().len(), 102_639);
+    assert!(rt; kernel.steps().len() < 13_000);
     assert!(rt; are_proved(alloc, &shelf, th_num::facts::FACTS)?);
     Ok(())
 }
@@ -129,7 +129,7 @@ fn countable_sets_are_built(rt: HostRuntime) -> Result<(), Fail> {
     let alloc = rt.alloc();
     let Built { kernel, shelf, .. } = with_countable_sets(alloc)?;
     assert_eq!(rt; kernel.defs().len(), 49);
-    assert_eq!(rt; kernel.steps().len(), 162_811);
+    assert!(rt; kernel.steps().len() < 20_000);
     assert!(rt; are_proved(alloc, &shelf, th_count::facts::FACTS)?);
     Ok(())
 }
