@@ -4,4 +4,4 @@ use Rattle.proof_log.proofs.Numbers.{decimal-numeral}
 use Rattle.proof_log.proofs.lines.push_number.Goals as goal
 
 pub returns : goal.returns
-returns c = on_ok_weaker c.write.result (λ e. e ∙ ap (λ t. string_bytes c.args.line.now ++ t) (decimal-numeral c.args.n (omega arith))) c.write.ensures.bytes
+returns c = on_ok_weaker c.push_str.result (λ e. e ∙ ap (λ t. string_bytes c.args.line.now ++ t) (c.format.ensures.text ∙ decimal-numeral c.args.n (omega arith))) c.push_str.ensures.bytes
