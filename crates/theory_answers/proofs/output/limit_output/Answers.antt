@@ -1,4 +1,4 @@
-use Rattle.std.proofs.Common.{true, sym, subst, arith}
+use Rattle.std.proofs.Common.{true, sym, subst}
 use Rattle.hol_terms.specs.Text.{Text}
 use Rattle.theory_answers.specs.Answered.{IsCheck}
 use Rattle.theory_answers.specs.declared.verdict.Verdict.TheVariants.{Refused}
