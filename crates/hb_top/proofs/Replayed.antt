@@ -14,13 +14,13 @@ use Rattle.log_replay.specs.Replayed.{IsFaultOf, GainsReport, GainsFaultReport, 
 use Rattle.log_replay.specs.declared.replay.ReplayError.{ReplayError}
 use Rattle.log_replay.specs.declared.replay.ReplayError.TheVariants.{BadLog as BadError}
 use Rattle.log_replay.proofs.Closing.{gains_part}
-use Rattle.theory_answers.specs.Answer.{in_force}
+use Rattle.base_count.specs.InForce.{in_force}
 use Rattle.hb_top.specs.declared.top.Status.TheVariants.{Done, Refused, Usage, ReadFault, WriteFault, Memory, BadLog}
 use Rattle.hb_top.specs.declared.top.Ending.{Ending}
 use Rattle.hb_top.specs.declared.top.Ending.TheVariants.{Plain, BadLog as BadEnding}
 use Rattle.hb_top.specs.Headline.{IfCut, GainsSound, IsUnwritten, Says}
-use Rattle.hb_top.specs.Replaying.{Reports, ReportsFault, ReportsInPart, IfReplayed, LeavesLog}
-use Rattle.hb_top.specs.Endings.{status_of, said_of, TellsFault, TellsReport, IfBadLog, IsReplaying, IsLogStatus}
+use Rattle.hb_top.specs.Replaying.{Reports, ReportsFault, ReportsInPart, IsGood, IsFaulty, IfReplayed, LeavesLog}
+use Rattle.hb_top.specs.Endings.{status_of, said_of, TellsFault, NamesFault, TellsReport, IfBadLog, IsReplaying, IsLogStatus}
 use Rattle.hb_top.proofs.Running.{Front, front_is, gains}
 
 -- the facts of a run that came to replaying
@@ -43,6 +43,12 @@ reports given old new f r = λ b e kept k. let g = r b (front f b e).front in to
 
 pub tells : (given message : Text) (old new : Option Text) {left new_left : Option Text} → Fed left new_left given → TellsReport given old new message → TellsFault left old new message
 tells given message old new f t = (t.0, t.1, t.2, λ b e kept k. let g = t.3 b (front f b e).front in told (λ out. IsFaultOf b out t.0 t.1) old new kept g.report k g.gained g.fault)
+
+pub is_good : (given : Text) (old new : Option Text) {left new_left : Option Text} → Fed left new_left given → ((b : Text) → given ≡ take (2 ^ 62) b → GainsReport b old new) → IsGood left
+is_good given old new f r = λ b e. let g = r b (front f b e).front in (g.report, g.good)
+
+names : (given message : Text) (old new : Option Text) {left new_left : Option Text} → Fed left new_left given → TellsReport given old new message → NamesFault left message
+names given message old new f t = (t.0, t.1, t.2, λ b e. let g = t.3 b (front f b e).front in (g.report, g.fault))
 
 pub reports_part : (given : Text) (old new : Option Text) {left new_left : Option Text} → Fed left new_left given → ((b : Text) → given ≡ take (2 ^ 62) b → GainsPart b old new) → ReportsInPart left old new
 reports_part given old new f r = λ b e kept k. let g = r b (front f b e).front in told (IsPartOfReport in_force b) old new kept g.out k g.gained g.part
@@ -97,6 +103,17 @@ bad_tells (Plain ReadFault) given old new f i t s = absurd cc
 bad_tells (Plain WriteFault) given old new f i t s = absurd cc
 bad_tells (Plain Memory) given old new f i t s = absurd cc
 
+pub bad_names : (e : Ending) (given : Text) (old new : Option Text) {left new_left : Option Text} → Fed left new_left given → IsReplaying e → IfBadLog e (λ message. TellsReport given old new (string_bytes message))
+    → status_of e ≡ BadLog → NamesFault left (said_of e)
+bad_names (BadEnding message) given old new f i t s = names given (string_bytes message) old new f t
+bad_names (Plain BadLog) given old new f i t s = absurd i
+bad_names (Plain Done) given old new f i t s = absurd cc
+bad_names (Plain Refused) given old new f i t s = absurd cc
+bad_names (Plain Usage) given old new f i t s = absurd cc
+bad_names (Plain ReadFault) given old new f i t s = absurd cc
+bad_names (Plain WriteFault) given old new f i t s = absurd cc
+bad_names (Plain Memory) given old new f i t s = absurd cc
+
 pub all_leave : (e : Ending) (P : Type 0) → P → IfReplayed (status_of e) P
 all_leave (BadEnding message) P p = p
 all_leave (Plain Done) P p = p
@@ -132,3 +149,7 @@ log_status (Plain Usage) i = i
 pub say_fault : (rose : Type 0) (left old new said_old said_new : Option Text) (message : Text) → TellsFault left old new message → Says rose said_old said_new message
     → (number : ℕ) × (why : Why) × ReportsFault left old new number why × Says rose said_old said_new (bad_log_text number why)
 say_fault rose left old new said_old said_new message t s = (t.0, t.1, t.3, subst (Says rose said_old said_new) t.2 s)
+
+pub say_named : (rose : Type 0) (left said_old said_new : Option Text) (message : Text) → NamesFault left message → Says rose said_old said_new message
+    → (number : ℕ) × (why : Why) × IsFaulty left number why × Says rose said_old said_new (bad_log_text number why)
+say_named rose left said_old said_new message t s = (t.0, t.1, t.3, subst (Says rose said_old said_new) t.2 s)

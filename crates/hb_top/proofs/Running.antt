@@ -9,7 +9,8 @@ use Rattle.hb_io.proofs.ToldLemmas.{prepend_told-None, prepend_told-Some, append
 use Rattle.hol_terms.specs.Text.{Text}
 use Rattle.hol_terms.specs.Base.{base}
 use Rattle.hol_terms.specs.Sound.{IsSound}
-use Rattle.theory_answers.specs.Answer.{limit, in_force}
+use Rattle.base_count.specs.InForce.{in_force}
+use Rattle.theory_answers.specs.Answer.{limit}
 use Rattle.theory_answers.specs.Answered.{IsCheck, IsDecided, IsLog}
 use Rattle.theory_answers.specs.Theories.{GainsLogOf, GainsPartOf}
 use Rattle.hb_top.specs.Headline.{IfAnswered, Answers, LogsAnswers, Leaves, IfCut, AnswersInPart, IsLogPart, nothing, front, LogsInPart, GainsSound, IsGoodPart, no_bytes, some_bytes, GainsGoodPart, IsPrinting, IsWriting}

@@ -10,7 +10,7 @@ use Rattle.hb_top.specs.declared.top.Status.TheVariants.{Done, Refused, Usage, W
 use Rattle.hb_top.specs.declared.top.Ending.{Ending}
 use Rattle.hb_top.specs.declared.top.Ending.TheVariants.{Plain, BadLog as BadEnding}
 use Rattle.hb_top.specs.Headline.{message_of}
-use Rattle.hb_top.specs.Replaying.{ReportsFault}
+use Rattle.hb_top.specs.Replaying.{ReportsFault, IsFaulty}
 
 abbrev pub status_of : Ending → Status
 status_of (Plain s) = s
@@ -23,6 +23,10 @@ said_of (BadEnding message) = string_bytes message
 -- the message tells the first bad line of the source's bytes
 abbrev pub TellsFault : Option Text → Option Text → Option Text → Text → Type 0
 TellsFault left old new message = (number : ℕ) × (why : Why) × (message ≡ bad_log_text number why) × ReportsFault left old new number why
+
+-- the same, whatever the sink tells
+abbrev pub NamesFault : Option Text → Text → Type 0
+NamesFault left message = (number : ℕ) × (why : Why) × (message ≡ bad_log_text number why) × IsFaulty left number why
 
 -- what a theory text may come to
 abbrev pub IsTheoryStatus : Status → Type 0

@@ -5,7 +5,8 @@ use Rattle.hol_terms.specs.Text.{Text}
 use Rattle.hol_terms.specs.Sound.{IsSound}
 use Rattle.hol_terms.specs.Base.{base}
 use Rattle.hol_logs.specs.Log.{IsGoodLog}
-use Rattle.theory_answers.specs.Answer.{limit, in_force}
+use Rattle.base_count.specs.InForce.{in_force}
+use Rattle.theory_answers.specs.Answer.{limit}
 use Rattle.theory_answers.specs.Answered.{IsCheck, IsPart, IsLog}
 use Rattle.hb_top.specs.declared.top.Status.{Status}
 use Rattle.hb_top.specs.declared.top.Status.TheVariants.{Done, Refused, Usage, ReadFault, WriteFault, Memory, BadLog}

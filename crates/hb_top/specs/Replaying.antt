@@ -4,7 +4,7 @@ use Rattle.hol_terms.specs.Text.{Text}
 use Rattle.hol_logs.specs.Log.{IsGoodLog, IsPartOfReport}
 use Rattle.replay_check.specs.declared.why.Why.{Why}
 use Rattle.log_replay.specs.Replayed.{IsFaultOf}
-use Rattle.theory_answers.specs.Answer.{in_force}
+use Rattle.base_count.specs.InForce.{in_force}
 use Rattle.hb_top.specs.declared.top.Status.{Status}
 use Rattle.hb_top.specs.declared.top.Status.TheVariants.{Done, BadLog}
 
@@ -19,6 +19,14 @@ Reports = Gains (IsGoodLog in_force)
 -- they are no good log, of this first bad line and its first cause, and the sink gained the report of the lines before it
 abbrev pub ReportsFault : Option Text → Option Text → Option Text → ℕ → Why → Type 0
 ReportsFault left old new number why = Gains (λ b out. IsFaultOf b out number why) left old new
+
+-- the source's bytes are a good log, whatever the sink tells
+abbrev pub IsGood : Option Text → Type 0
+IsGood left = (b : Text) → left ≡ Some b → (report : Text) × IsGoodLog in_force b report
+
+-- they are no good log, of this first bad line and its first cause, whatever the sink tells
+abbrev pub IsFaulty : Option Text → ℕ → Why → Type 0
+IsFaulty left number why = (b : Text) → left ≡ Some b → (report : Text) × IsFaultOf b report number why
 
 -- the sink gained a part of their report
 abbrev pub ReportsInPart : Option Text → Option Text → Option Text → Type 0

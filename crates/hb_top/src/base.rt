@@ -2,7 +2,7 @@
 
 ghost use Rattle.std.specs.Prelude.{◌≡◌, IfOk};
 ghost use Rattle.hol_terms.specs.Base.{base};
-ghost use Rattle.theory_answers.specs.Answer.{in_force};
+ghost use Rattle.base_count.specs.InForce.{in_force};
 
 use hol_kernel::Kernel;
 use kernel_lines::start;

@@ -4,8 +4,8 @@ ghost use Rattle.hb_io.specs.Faults.{Rose};
 ghost use Rattle.hb_io.specs.Told.{Appends, AppendsPart};
 ghost use Rattle.hb_top.specs.declared.top.Status.TheVariants as status;
 ghost use Rattle.hb_top.specs.Headline.{code_of, message_of, IfAnswered, Answers, LogsAnswers, Leaves, IfCut, AnswersInPart, LogsInPart, GainsSound, GainsGoodPart, Says, IsUsage, IsCompletion, IsPrinting, IsWriting, IsUnwritten};
-ghost use Rattle.hb_top.specs.Replaying.{Reports, ReportsFault, ReportsInPart, IfReplayed, LeavesLog};
-ghost use Rattle.hb_top.specs.Endings.{status_of, said_of, TellsFault, TellsReport, IfBadLog, IsTheoryStatus, IsLogStatus, IsReplaying};
+ghost use Rattle.hb_top.specs.Replaying.{Reports, ReportsFault, ReportsInPart, IsGood, IsFaulty, IfReplayed, LeavesLog};
+ghost use Rattle.hb_top.specs.Endings.{status_of, said_of, TellsFault, NamesFault, TellsReport, IfBadLog, IsTheoryStatus, IsLogStatus, IsReplaying};
 ghost use Rattle.log_replay.specs.Replayed.{GainsReport, GainsPart};
 ghost use Rattle.hol_terms.specs.Text.{Text};
 ghost use Rattle.log_replay.specs.Messages.{bad_log_text};
@@ -13,7 +13,7 @@ ghost use Rattle.replay_check.specs.declared.why.Why.{Why};
 ghost use Rattle.program_words.specs.Words.{mode_of};
 ghost use Rattle.program_words.specs.declared.Mode.TheVariants as mode;
 ghost use Rattle.proof_log.specs.Marks.{AreFit};
-ghost use Rattle.theory_answers.specs.Answer.{in_force};
+ghost use Rattle.base_count.specs.InForce.{in_force};
 ghost use Rattle.theory_answers.specs.Answered.{IsCheck, IsDecided};
 ghost use Rattle.theory_answers.specs.Theories.{is_stop, IsTheory, GainsLogOf, GainsPartOf};
 
@@ -25,7 +25,7 @@ use log_replay::replay::{MOST_BYTES, ReplayError, replay};
 use program_words::{Mode, mode_of};
 use proof_log::LogError;
 use std::alloc::{AllocError, Global};
-use theory_answers::output::{Output, output_of};
+use theory_answers::output::{Output, limit_output, output_of};
 use theory_answers::theory::{Theory, theory_of};
 use theory_answers::verdict::LIMIT;
 
@@ -96,11 +96,13 @@ pub fn hbnf<S: Source, O: Sink, E: Sink>(
 ) -> Status
     // What is printed after Done and Refused answers the input, is sound, and stands where it belongs; a log is good, and that is
     // what it reports. After Done in `replay` the log was good, and its report is printed; after BadLog it wasn't, and what it reports
-    // before its first bad line is.
+    // before its first bad line is. That a log was good, or which is its first bad line, holds whatever `out` tells.
     ensures check { mode_of (map string_bytes words.now) ≡ Some mode.Check → IfAnswered result (Answers (S.left src.old) (O.kept out.old) (O.kept out.new)) }
     ensures log { mode_of (map string_bytes words.now) ≡ Some mode.Log → IfAnswered result (LogsAnswers (S.left src.old) (O.kept out.old) (O.kept out.new)) }
     ensures replay { mode_of (map string_bytes words.now) ≡ Some mode.Replay → result ≡ status.Done → Reports (S.left src.old) (O.kept out.old) (O.kept out.new) }
     ensures bad_log { mode_of (map string_bytes words.now) ≡ Some mode.Replay → result ≡ status.BadLog → (number : ℕ) × (why : Why) × ReportsFault (S.left src.old) (O.kept out.old) (O.kept out.new) number why × Says (Rose (E.faults err.old) (E.faults err.new)) (E.kept err.old) (E.kept err.new) (bad_log_text number why) }
+    ensures replay_good { mode_of (map string_bytes words.now) ≡ Some mode.Replay → result ≡ status.Done → IsGood (S.left src.old) }
+    ensures replay_faulty { mode_of (map string_bytes words.now) ≡ Some mode.Replay → result ≡ status.BadLog → (number : ℕ) × (why : Why) × IsFaulty (S.left src.old) number why × Says (Rose (E.faults err.old) (E.faults err.new)) (E.kept err.old) (E.kept err.new) (bad_log_text number why) }
     ensures decided { mode_of (map string_bytes words.now) ≢ Some mode.Replay → IfAnswered result (λ refused. (b : Text) → S.left src.old ≡ Some b → IsDecided b refused) }
     ensures left { mode_of (map string_bytes words.now) ≢ Some mode.Replay → IfAnswered result (λ refused. Leaves (S.left src.old) (S.left src.new)) }
     ensures replay_left { mode_of (map string_bytes words.now) ≡ Some mode.Replay → IfReplayed result (LeavesLog (S.left src.old) (S.left src.new)) }
@@ -121,7 +123,7 @@ pub fn hbnf<S: Source, O: Sink, E: Sink>(
     ensures sound { mode_of (map string_bytes words.now) ≢ Some mode.Log → GainsSound (O.kept out.old) (O.kept out.new) }
     ensures unwritten { IsUnwritten result (O.kept out.old) (O.kept out.new) }
     ensures memory_unwritten { mode_of (map string_bytes words.now) ≢ Some mode.Log → mode_of (map string_bytes words.now) ≢ Some mode.Replay → result ≡ status.Memory → O.kept out.new ≡ O.kept out.old }
-    ensures untouched { result ≡ status.Usage → S.left src.new ≡ S.left src.old }
+    ensures untouched { result ≡ status.Usage → src.new ≡ src.old }
     ensures says { result ≢ status.BadLog → Says (Rose (E.faults err.old) (E.faults err.new)) (E.kept err.old) (E.kept err.new) (message_of result) }
 {
     match run(alloc, words, src, out) {
@@ -152,6 +154,8 @@ fn run<S: Source, O: Sink>(alloc: Global, words: &[String], src: &mut S, out: &m
     ensures log { mode_of (map string_bytes words.now) ≡ Some mode.Log → IfAnswered (status_of result) (LogsAnswers (S.left src.old) (O.kept out.old) (O.kept out.new)) }
     ensures replay { mode_of (map string_bytes words.now) ≡ Some mode.Replay → status_of result ≡ status.Done → Reports (S.left src.old) (O.kept out.old) (O.kept out.new) }
     ensures bad_log { mode_of (map string_bytes words.now) ≡ Some mode.Replay → status_of result ≡ status.BadLog → TellsFault (S.left src.old) (O.kept out.old) (O.kept out.new) (said_of result) }
+    ensures replay_good { mode_of (map string_bytes words.now) ≡ Some mode.Replay → status_of result ≡ status.Done → IsGood (S.left src.old) }
+    ensures replay_faulty { mode_of (map string_bytes words.now) ≡ Some mode.Replay → status_of result ≡ status.BadLog → NamesFault (S.left src.old) (said_of result) }
     ensures decided { mode_of (map string_bytes words.now) ≢ Some mode.Replay → IfAnswered (status_of result) (λ refused. (b : Text) → S.left src.old ≡ Some b → IsDecided b refused) }
     ensures left { mode_of (map string_bytes words.now) ≢ Some mode.Replay → IfAnswered (status_of result) (λ refused. Leaves (S.left src.old) (S.left src.new)) }
     ensures replay_left { mode_of (map string_bytes words.now) ≡ Some mode.Replay → IfReplayed (status_of result) (LeavesLog (S.left src.old) (S.left src.new)) }
@@ -169,7 +173,7 @@ fn run<S: Source, O: Sink>(alloc: Global, words: &[String], src: &mut S, out: &m
     ensures sound { mode_of (map string_bytes words.now) ≢ Some mode.Log → GainsSound (O.kept out.old) (O.kept out.new) }
     ensures unwritten { IsUnwritten (status_of result) (O.kept out.old) (O.kept out.new) }
     ensures memory_unwritten { mode_of (map string_bytes words.now) ≢ Some mode.Log → mode_of (map string_bytes words.now) ≢ Some mode.Replay → status_of result ≡ status.Memory → O.kept out.new ≡ O.kept out.old }
-    ensures untouched { status_of result ≡ status.Usage → S.left src.new ≡ S.left src.old }
+    ensures untouched { status_of result ≡ status.Usage → src.new ≡ src.old }
 {
     match mode_of(alloc, words) {
         Ok(Some(Mode::Check)) => Ending::Plain(check(alloc, src, out)),
@@ -209,6 +213,9 @@ fn check<S: Source, O: Sink>(alloc: Global, src: &mut S, out: &mut O) -> Status
 fn checked(alloc: Global, input: &[u8]) -> Result<Output, AllocError>
     ensures { IfOk result (λ o. IsCheck input.now (string_bytes o.text) o.refused) }
 {
+    if input.len() > LIMIT {
+        return limit_output(alloc, input);
+    }
     let mut kernel = base_kernel(alloc)?;
     output_of(alloc, &mut kernel, input)
 }
@@ -280,6 +287,8 @@ fn write<O: Sink>(alloc: Global, theory: &Theory, out: &mut O) -> Status
 fn replay_log<S: Source, O: Sink>(alloc: Global, src: &mut S, out: &mut O) -> Ending
     ensures replay { status_of result ≡ status.Done → Reports (S.left src.old) (O.kept out.old) (O.kept out.new) }
     ensures bad_log { status_of result ≡ status.BadLog → TellsFault (S.left src.old) (O.kept out.old) (O.kept out.new) (said_of result) }
+    ensures replay_good { status_of result ≡ status.Done → IsGood (S.left src.old) }
+    ensures replay_faulty { status_of result ≡ status.BadLog → NamesFault (S.left src.old) (said_of result) }
     ensures replay_left { IfReplayed (status_of result) (LeavesLog (S.left src.old) (S.left src.new)) }
     ensures replay_end { status_of result ≡ status.Done → IsAtEnd (S.left src.new) }
     ensures read_fault { status_of result ≡ status.ReadFault → Rose (S.faults src.old) (S.faults src.new) }

@@ -16,13 +16,14 @@ use hol_terms::defs::Def;
 use hol_terms::terms::{Term, Var};
 use hol_terms::types::HolType;
 use hol_text::print::{push_term, push_type};
+use itoa::Buffer;
 use std::alloc::{AllocError, Global};
-use std::fmt::Write;
 
 fn push_number(line: &mut String, n: usize) -> Result<(), AllocError>
     ensures { OnOk result (string_bytes line.new ≡ string_bytes line.old ++ numeral n) }
 {
-    write!(line, "{n}")
+    let mut digits = Buffer::new();
+    line.push_str(digits.format(n))
 }
 
 fn push_variable(line: &mut String, v: &Var) -> Result<(), AllocError>

@@ -12,7 +12,7 @@ use Rattle.hol_terms.specs.Base.{base, base_definitions}
 use Rattle.hol_terms.proofs.AsciiNames.{is_ascii_segment, is_segment_from_ascii}
 use Rattle.hol_terms.proofs.BaseOpened.{opened_bases}
 use Rattle.hol_text.specs.Over.{GivesTypes}
-use Rattle.theory_answers.specs.Answer.{in_force}
+use Rattle.base_count.specs.InForce.{in_force}
 
 -- a type over the signature whose type variables are ASCII
 abbrev mutual

@@ -14,7 +14,8 @@ use Rattle.theory_text.specs.Definable.{IsDefinable}
 use Rattle.theory_text.specs.Views.{define_view}
 use Rattle.theory_text.specs.declared.command.DefineCommand.{DefineCommand}
 use Rattle.theory_text.proofs.Stated.{stated_definable}
-use Rattle.theory_answers.specs.Answer.{limit, in_force, is_refusal}
+use Rattle.base_count.specs.InForce.{in_force}
+use Rattle.theory_answers.specs.Answer.{limit, is_refusal}
 use Rattle.theory_answers.specs.Layout.{unlines}
 use Rattle.theory_answers.specs.Answered.{IsCheck}
 use Rattle.theory_answers.specs.Verdicts.{is_conservative}

@@ -18,7 +18,8 @@ use Rattle.theory_text.specs.Definable.{IsDefinable}
 use Rattle.theory_answers.specs.declared.verdict.Refusal.{Refusal}
 use Rattle.theory_answers.specs.declared.verdict.Verdict.{Verdict}
 use Rattle.theory_answers.specs.declared.verdict.Verdict.TheVariants.{Empty, Define, Refused}
-use Rattle.theory_answers.specs.Answer.{limit, in_force, base_line, limit_line, unbuilt_line, stray_line}
+use Rattle.base_count.specs.InForce.{in_force}
+use Rattle.theory_answers.specs.Answer.{limit, base_line, limit_line, unbuilt_line, stray_line}
 use Rattle.theory_answers.specs.Layout.{unlines}
 use Rattle.theory_answers.specs.Answered.{IsCheck}
 use Rattle.theory_answers.specs.Verdicts.{refusal_line, IsRefusalOf, IsRefused, is_conservative, IsOutcome, IsDefine, IsVerdict}

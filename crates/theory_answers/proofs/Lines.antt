@@ -23,7 +23,7 @@ use Rattle.hol_terms.specs.Tokens.{starts, continues}
 use Rattle.hol_terms.specs.Text.{Text, ty_text, tys_texts, parenthesized, with_arguments, with_commas, application_text, is_arrow, bound_text, Sugar, between, before, binding, none, sign_between, sign_binding, sign_before, sugar, whole_text, is_plain, is_atom, is_function, Printed, printed, tm_text}
 use Rattle.hol_terms.proofs.BaseOpened.{opened_bases}
 use Rattle.hol_text.proofs.Characters.{starts-is, continues-is}
-use Rattle.theory_answers.specs.Answer.{in_force}
+use Rattle.base_count.specs.InForce.{in_force}
 use Rattle.theory_answers.proofs.OutputLines.{is_line}
 
 pub line_append : (a b : Text) → is_line a ≡ true → is_line b ≡ true → is_line (a ++ b) ≡ true

@@ -21,7 +21,8 @@ use Rattle.hol_terms.proofs.Defining.{const_derivable}
 use Rattle.hol_terms.proofs.Typed.{IsOver-type}
 use Rattle.theory_text.specs.Command.{Define, define_of}
 use Rattle.theory_text.specs.Definable.{IsDefinable}
-use Rattle.theory_answers.specs.Answer.{limit, in_force, base_line, section_line, define_fact, stray_line, limit_line, unbuilt_line, command_lines, text_lines, answer, is_refusal, is_answer_line}
+use Rattle.base_count.specs.InForce.{in_force}
+use Rattle.theory_answers.specs.Answer.{limit, base_line, section_line, define_fact, stray_line, limit_line, unbuilt_line, command_lines, text_lines, answer, is_refusal, is_answer_line}
 use Rattle.theory_answers.specs.Layout.{unlines, Section, section_lines, IsTheoremLine, IsEnding, accepted, refused}
 use Rattle.theory_answers.specs.Answered.{IsCheck}
 use Rattle.theory_answers.specs.Verdicts.{is_conservative, defined_lines}

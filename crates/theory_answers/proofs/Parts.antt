@@ -4,7 +4,8 @@ use Rattle.hol_terms.specs.Definition.{Definition}
 use Rattle.hol_terms.specs.Text.{Text}
 use Rattle.hol_terms.specs.Base.{base}
 use Rattle.hol_terms.specs.Sound.{lines_after, complete_lines, LineKind, defines, states, other, kind_of, by_kind, AreSoundAfter}
-use Rattle.theory_answers.specs.Answer.{in_force, is_answer_line, answer}
+use Rattle.base_count.specs.InForce.{in_force}
+use Rattle.theory_answers.specs.Answer.{is_answer_line, answer}
 use Rattle.theory_answers.specs.Answered.{IsCheck, IsPart}
 
 -- the list, with something behind it

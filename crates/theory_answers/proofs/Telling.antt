@@ -35,7 +35,8 @@ use Rattle.proof_log.proofs.Reports.{base_reports, define_reports}
 use Rattle.theory_text.specs.Command.{Define as Stated}
 use Rattle.theory_answers.specs.declared.verdict.Refusal.{Refusal}
 use Rattle.theory_answers.specs.declared.theory.Theory.{Theory}
-use Rattle.theory_answers.specs.Answer.{in_force, base_line, section_line, define_fact}
+use Rattle.base_count.specs.InForce.{in_force}
+use Rattle.theory_answers.specs.Answer.{base_line, section_line, define_fact}
 use Rattle.theory_answers.specs.Layout.{unlines}
 use Rattle.theory_answers.specs.Answered.{IsCheck, IsLog}
 use Rattle.theory_answers.specs.Verdicts.{refusal_line, defined_lines, IsDefine, IsRefusal}

@@ -9,14 +9,11 @@ use Rattle.hol_terms.specs.Base.{base}
 use Rattle.hol_terms.specs.Text.{Text, theorem_line}
 use Rattle.hol_terms.specs.Sound.{complete_lines, begins_with}
 use Rattle.theory_text.specs.Command.{Define, define_of}
+use Rattle.base_count.specs.InForce.{in_force}
 
 -- a longer input is refused
 abbrev pub limit : ℕ
 limit = 1048576
-
--- how many base definitions are in force
-abbrev pub in_force : ℕ
-in_force = 33
 
 abbrev pub base_line : Text
 base_line = codes "base " ++ decimal in_force

@@ -5,7 +5,8 @@ use Rattle.hol_terms.specs.Text.{Text}
 use Rattle.hol_terms.specs.Sound.{IsSound}
 use Rattle.hol_terms.specs.Base.{base}
 use Rattle.hol_logs.specs.Log.{IsGoodLog}
-use Rattle.theory_answers.specs.Answer.{in_force, answer, answers, is_refusal}
+use Rattle.base_count.specs.InForce.{in_force}
+use Rattle.theory_answers.specs.Answer.{answer, answers, is_refusal}
 use Rattle.theory_answers.specs.Layout.{IsOwned}
 
 -- the text's answer has a refusal, or has none

@@ -14,7 +14,8 @@ use Rattle.proof_log.specs.Written.{log_of, text_of}
 use Rattle.proof_log.specs.Gained.{AppendsFront}
 use Rattle.proof_log.specs.Theories.{base_mark, IsDefinedNext, define_marks}
 use Rattle.theory_text.specs.Command.{Define}
-use Rattle.theory_answers.specs.Answer.{in_force, section_line}
+use Rattle.base_count.specs.InForce.{in_force}
+use Rattle.theory_answers.specs.Answer.{section_line}
 use Rattle.theory_answers.specs.Answered.{IsLog}
 use Rattle.theory_answers.specs.declared.theory.Theory.{Theory}
 

@@ -11,7 +11,8 @@ use Rattle.hol_logs.specs.Line.{is_word}
 use Rattle.theory_text.specs.Command as Command
 use Rattle.theory_text.specs.Definable.{IsDefinable}
 use Rattle.theory_text.specs.Views.{define_view}
-use Rattle.theory_answers.specs.Answer.{in_force, base_line, section_line, define_fact}
+use Rattle.base_count.specs.InForce.{in_force}
+use Rattle.theory_answers.specs.Answer.{base_line, section_line, define_fact}
 use Rattle.theory_answers.specs.Layout.{unlines}
 use Rattle.theory_answers.specs.Answered.{IsCheck}
 use Rattle.theory_answers.specs.declared.verdict.Refusal.{Refusal}

@@ -1,6 +1,6 @@
 //! The output that answers an input.
 
-ghost use Rattle.std.specs.Prelude.{◌≡◌, [], ◌∷◌, ◌++◌, None, codes, string_bytes, IfOk, OnOk};
+ghost use Rattle.std.specs.Prelude.{◌≡◌, ◌<◌, [], ◌∷◌, ◌++◌, None, codes, length, string_bytes, IfOk, OnOk};
 ghost use Rattle.std.specs.Fmt.{decimal};
 ghost use Rattle.hol_terms.specs.Base.{base};
 ghost use Rattle.hol_terms.specs.Definition.{const_def, signature_of};
@@ -11,17 +11,19 @@ ghost use Rattle.hol_terms.specs.Text.{definition_line, theorem_line};
 ghost use Rattle.hol_terms.specs.Typing.{tm_type};
 ghost use Rattle.hol_terms.specs.TyVars.{own_const};
 ghost use Rattle.hol_kernel.specs.Fault.{const_fault};
-ghost use Rattle.theory_answers.specs.Answer.{in_force, base_line};
+ghost use Rattle.base_count.specs.InForce.{in_force};
+ghost use Rattle.theory_answers.specs.Answer.{limit, base_line};
 ghost use Rattle.theory_answers.specs.Layout.{unlines};
 ghost use Rattle.theory_answers.specs.Answered.{IsCheck};
 ghost use Rattle.theory_answers.specs.Verdicts.{refusal_line};
 
-use crate::verdict::{Refusal, Verdict, verdict_of};
+use crate::verdict::{Refusal, Verdict, limit_refusal, verdict_of};
+use base_count::BASE_DEFINITIONS;
 use hol_kernel::Kernel;
 use hol_terms::terms::Term;
 use hol_text::print::{definition_line, theorem_line};
+use itoa::Buffer;
 use std::alloc::{AllocError, Global};
-use std::fmt::Write;
 
 /// An output, and whether it ends in a refusal.
 #[derive(Drop)]
@@ -61,11 +63,28 @@ pub fn output_of(alloc: Global, kernel: &mut Kernel, input: &[u8]) -> Result<Out
     }
 }
 
+/// The output of `check` on an input that is longer than the limit, which needs no kernel. The only error is want of memory.
+pub fn limit_output(alloc: Global, input: &[u8]) -> Result<Output, AllocError>
+    requires { limit < length input.now }
+    ensures { IfOk result (λ o. IsCheck input.now (string_bytes o.text) o.refused) }
+{
+    let _ = input;
+    let refusal = limit_refusal(alloc)?;
+    let text = refused(alloc, &refusal)?;
+    Ok(Output {
+        text,
+        refused: true,
+    })
+}
+
 /// The base line.
 fn begin(alloc: Global) -> Result<String, AllocError>
     ensures { IfOk result (λ text. string_bytes text ≡ unlines (base_line ∷ [])) }
 {
-    String::from_str(alloc, "base 33\n")
+    let mut text = String::from_str(alloc, "base ")?;
+    push_number(&mut text, BASE_DEFINITIONS)?;
+    text.push_str("\n")?;
+    Ok(text)
 }
 
 fn push_line(text: &mut String, line: &str) -> Result<(), AllocError>
@@ -78,7 +97,8 @@ fn push_line(text: &mut String, line: &str) -> Result<(), AllocError>
 fn push_number(text: &mut String, n: usize) -> Result<(), AllocError>
     ensures { OnOk result (string_bytes text.new ≡ string_bytes text.old ++ decimal n) }
 {
-    write!(text, "{n}")
+    let mut digits = Buffer::new();
+    text.push_str(digits.format(n))
 }
 
 fn refusal_line(alloc: Global, refusal: &Refusal) -> Result<String, AllocError>

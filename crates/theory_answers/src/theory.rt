@@ -10,18 +10,16 @@ ghost use Rattle.theory_text.specs.Definable.{IsDefinable};
 ghost use Rattle.theory_text.specs.Views.{define_view};
 ghost use Rattle.proof_log.specs.Gained.{IfFault};
 ghost use Rattle.proof_log.specs.Marks.{AreFit};
-ghost use Rattle.theory_answers.specs.Answer.{in_force};
+ghost use Rattle.base_count.specs.InForce.{in_force};
 ghost use Rattle.theory_answers.specs.Theories.{is_stop, IsBaseTheory, IsDefinedTheory, IsTheory, GainsLogOf, GainsPartOf};
 
 use crate::verdict::{Verdict, verdict_of};
+use base_count::BASE_DEFINITIONS;
 use hb_io::Sink;
 use hol_kernel::Kernel;
 use proof_log::{End, LogError, Mark, MarkKind, write_log};
 use std::alloc::{AllocError, Global};
 use theory_text::command::DefineCommand;
-
-/// How many base definitions are in force.
-const IN_FORCE: u32 = 33;
 
 /// A theory that was read: the kernel with its definition, what is said of the kernel's steps, and how the theory ends.
 #[derive(Drop)]
@@ -72,7 +70,7 @@ fn base_theory(alloc: Global, kernel: Kernel, end: End) -> Result<Theory, AllocE
     let mut marks = Vec::new(alloc);
     marks.push(Mark {
         at,
-        kind: MarkKind::Base(IN_FORCE),
+        kind: MarkKind::Base(BASE_DEFINITIONS as u32),
     })?;
     Ok(Theory { kernel, marks, end })
 }
@@ -97,7 +95,7 @@ fn defined_theory(
     let mut marks = Vec::new(alloc);
     marks.push(Mark {
         at: step,
-        kind: MarkKind::Base(IN_FORCE),
+        kind: MarkKind::Base(BASE_DEFINITIONS as u32),
     })?;
     marks.push(Mark {
         at: step,

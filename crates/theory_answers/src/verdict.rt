@@ -5,8 +5,9 @@ ghost use Rattle.hol_terms.specs.Base.{base};
 ghost use Rattle.hol_terms.specs.Definition.{signature_of};
 ghost use Rattle.theory_text.specs.Definable.{IsDefinable};
 ghost use Rattle.theory_text.specs.Views.{define_view};
-ghost use Rattle.theory_answers.specs.Answer.{in_force};
-ghost use Rattle.theory_answers.specs.Verdicts.{IsRefused, IsOutcome, IsVerdict};
+ghost use Rattle.base_count.specs.InForce.{in_force};
+ghost use Rattle.theory_answers.specs.Answer.{limit};
+ghost use Rattle.theory_answers.specs.Verdicts.{IsRefusalOf, IsRefused, IsOutcome, IsVerdict};
 
 use hol_kernel::Kernel;
 use std::alloc::{AllocError, Global};
@@ -39,6 +40,17 @@ fn refuse(alloc: Global, test: &str, name: &str, place: usize) -> Result<Verdict
         name: String::from_str(alloc, name)?,
         place,
     }))
+}
+
+/// The refusal of a text that is longer than the limit.
+pub(crate) fn limit_refusal(alloc: Global) -> Result<Refusal, AllocError>
+    ensures { IfOk result (λ r. IsRefusalOf r (codes "limit") (codes "input") limit) }
+{
+    Ok(Refusal {
+        test: String::from_str(alloc, "limit")?,
+        name: String::from_str(alloc, "input")?,
+        place: LIMIT,
+    })
 }
 
 /// The verdict on a text of which at most the limit and one byte more are given. The only error is want of memory.

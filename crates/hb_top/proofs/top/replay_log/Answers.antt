@@ -1,5 +1,5 @@
 use Rattle.hb_top.proofs.Running.{unwritten_report}
-use Rattle.hb_top.proofs.Replayed.{Fed, fed, reports, leaves, plain_cut, bad_tells, all_leave, sound, not_unwritten, log_status}
+use Rattle.hb_top.proofs.Replayed.{Fed, fed, reports, is_good, leaves, plain_cut, bad_tells, bad_names, all_leave, sound, not_unwritten, log_status}
 use Rattle.hb_top.proofs.top.replay_log.Goals as goal
 
 pub returns-clause-replay : goal.returns-clause-replay
@@ -15,6 +15,20 @@ returns-clause-bad_log g c = λ s.
     let given = c.deref.result.now in
     let f : Fed (g.S.Source.left c.args.src.now) (g.S.Source.left c.read_input.new.src) given = fed _ _ _ given c.deref.ensures.value e.taken e.within e.whole in
     bad_tells c.replayed.result given _ _ f c.replayed.ensures.ending c.replayed.ensures.bad s
+
+pub returns-clause-replay_good : goal.returns-clause-replay_good
+returns-clause-replay_good g c = λ s.
+    let e = c.in-Ok.ensures in
+    let given = c.deref.result.now in
+    let f : Fed (g.S.Source.left c.args.src.now) (g.S.Source.left c.read_input.new.src) given = fed _ _ _ given c.deref.ensures.value e.taken e.within e.whole in
+    is_good given _ _ f (λ b h. c.replayed.ensures.good b h s)
+
+pub returns-clause-replay_faulty : goal.returns-clause-replay_faulty
+returns-clause-replay_faulty g c = λ s.
+    let e = c.in-Ok.ensures in
+    let given = c.deref.result.now in
+    let f : Fed (g.S.Source.left c.args.src.now) (g.S.Source.left c.read_input.new.src) given = fed _ _ _ given c.deref.ensures.value e.taken e.within e.whole in
+    bad_names c.replayed.result given _ _ f c.replayed.ensures.ending c.replayed.ensures.bad s
 
 pub returns-clause-replay_left : goal.returns-clause-replay_left
 returns-clause-replay_left g c =

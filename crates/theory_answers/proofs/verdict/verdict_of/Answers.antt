@@ -3,7 +3,7 @@ use Rattle.hol_terms.specs.Base.{base}
 use Rattle.hol_terms.specs.Definition.{signature_of}
 use Rattle.theory_text.specs.Command.{define_of}
 use Rattle.theory_text.specs.Views.{define_view}
-use Rattle.theory_answers.specs.Answer.{in_force}
+use Rattle.base_count.specs.InForce.{in_force}
 use Rattle.theory_answers.proofs.Checking.{one_ok, no_bytes, some_bytes, no_define, a_define, over_base, definable_here}
 use Rattle.theory_answers.proofs.Deciding.{verdict_limit, verdict_nothing, verdict_unbuilt, verdict_define}
 use Rattle.theory_answers.proofs.verdict.verdict_of.Goals as goal

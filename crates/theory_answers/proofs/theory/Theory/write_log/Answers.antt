@@ -2,7 +2,7 @@ use Rattle.std.proofs.Common.{subst, List}
 use Rattle.std.proofs.lemmas.Result.{on_ok_weaker, on_err_weaker}
 use Rattle.proof_log.specs.declared.marks.Mark.{Mark}
 use Rattle.proof_log.specs.Gained.{GainsLog, GainsFront}
-use Rattle.theory_answers.specs.Answer.{in_force}
+use Rattle.base_count.specs.InForce.{in_force}
 use Rattle.theory_answers.proofs.Telling.{gains_log_of, gains_part_of}
 use Rattle.theory_answers.proofs.theory.Theory.write_log.Goals as goal
 
